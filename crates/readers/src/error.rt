@@ -1,0 +1,37 @@
+// The faults of every call: a closed list of fourteen.
+use crate::reader::ReaderOffsetId;
+use crate::reader::ReaderOffsetIdDebug;
+use crate::reader::ReaderOffsetIdPartialEq;
+
+/// Why a call was refused.
+#[derive(Clone, Copy, PartialEq, Eq, Debug)]
+pub enum Error {
+    /// The reader has too few bytes; the id is the reader's just before the step that lacked them.
+    UnexpectedEof(ReaderOffsetId),
+    /// An initial length that DWARF keeps for later use.
+    UnknownReservedLength(u32),
+    /// A version that is not read here.
+    UnknownVersion(u16),
+    /// A size of addresses other than 1, 2, 4 or 8.
+    UnsupportedAddressSize(u8),
+    /// A set with segment selectors.
+    UnsupportedSegmentSize(u8),
+    /// A number that the reader's kind of offset can't hold.
+    UnsupportedOffset,
+    /// A size of offsets other than 1, 2, 4 or 8.
+    UnsupportedOffsetSize(u8),
+    /// An unsigned LEB128 number that is too large, or too long.
+    BadUnsignedLeb128,
+    /// A signed LEB128 number that is too large, or too long.
+    BadSignedLeb128,
+    /// A range that ends past the largest address.
+    AddressOverflow,
+    /// A section whose places can't all be named.
+    SectionTooLong,
+    /// A call of the walk that needs a header or a tuple walk before there is one.
+    NothingOpen,
+    /// Relocation refused; the offset is the one that it was asked about.
+    RelocationRefused(u64),
+    /// A number of more bytes than eight.
+    BadLength(usize),
+}
