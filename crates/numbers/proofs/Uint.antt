@@ -70,16 +70,16 @@ length-order false bs = refl
 pub uint-read : (n v : ℕ) (m after : Meaning) (held low bytes : List ℕ) → n ≤ 8 → Copied n m after held → low ≡ cond (m .big) (reverse held) held → bytes ≡ low ++ drop (n - 0) zeros → v ≡ sum8 bytes → Did (λ (x : ℕ). x) (Ok v) after (uint n m)
 uint-read n v m after held low bytes h d e f w =
     let k : length low ≡ n =
-        ap length e ∙ length-order (m .big) held ∙ ap length (d .held-is) ∙ length-take n (m .rest) ∙ omega (arith, leb-true n (length (m .rest)) (d .room))
+    ap length e ∙ length-order (m .big) held ∙ ap length (d .held-is) ∙ length-take n (m .rest) ∙ omega (arith, leb-true n (length (m .rest)) (d .room))
     in
     let long : length bytes ≤ 8 = rw f (simp (length-append, length-drop) (omega arith)) in
     let value : v ≡ little low =
-        w ∙ sum8-little bytes long ∙ ap little f ∙ little-end low (drop (n - 0) zeros) (little-drop (n - 0) zeros refl)
+    w ∙ sum8-little bytes long ∙ ap little f ∙ little-end low (drop (n - 0) zeros) (little-drop (n - 0) zeros refl)
     in
     let spells : little low ≡ spelt (m .big) (take n (m .rest)) = ap little e ∙ little-order (m .big) held ∙ ap (spelt (m .big)) (d .held-is) in
     let steps : uint n m ≡ gives (spelt (m .big) (take n (m .rest))) (past n m) =
-        ap (λ b. cond b (fixed n m) (refuses 14 n m)) (le-leb n 8 h)
-        ∙ ap (λ b. cond b (gives (spelt (m .big) (take n (m .rest))) (past n m)) (refuses 1 (m .id) m)) (d .room)
+    ap (λ b. cond b (fixed n m) (refuses 14 n m)) (le-leb n 8 h)
+    ∙ ap (λ b. cond b (gives (spelt (m .big) (take n (m .rest))) (past n m)) (refuses 1 (m .id) m)) (d .room)
     in
     record {
       answers = ap answer (value ∙ spells) ∙ sym (ap (λ s. s .outcome) steps);

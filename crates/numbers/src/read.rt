@@ -33,10 +33,12 @@ pub fn read_u16<R: Reader>(reader: &mut R) -> Result<u16, Error>
 {
     let mut bytes = [0u8; 2];
     reader.read_slice(&mut bytes)?;
-    Ok(match reader.endian() {
-        RunTimeEndian::Little => u16::from_le_bytes(bytes),
-        RunTimeEndian::Big => u16::from_be_bytes(bytes),
-    })
+    Ok(
+        match reader.endian() {
+            RunTimeEndian::Little => u16::from_le_bytes(bytes),
+            RunTimeEndian::Big => u16::from_be_bytes(bytes),
+        },
+    )
 }
 
 pub fn read_u32<R: Reader>(reader: &mut R) -> Result<u32, Error>
@@ -44,10 +46,12 @@ pub fn read_u32<R: Reader>(reader: &mut R) -> Result<u32, Error>
 {
     let mut bytes = [0u8; 4];
     reader.read_slice(&mut bytes)?;
-    Ok(match reader.endian() {
-        RunTimeEndian::Little => u32::from_le_bytes(bytes),
-        RunTimeEndian::Big => u32::from_be_bytes(bytes),
-    })
+    Ok(
+        match reader.endian() {
+            RunTimeEndian::Little => u32::from_le_bytes(bytes),
+            RunTimeEndian::Big => u32::from_be_bytes(bytes),
+        },
+    )
 }
 
 pub fn read_u64<R: Reader>(reader: &mut R) -> Result<u64, Error>
@@ -55,10 +59,12 @@ pub fn read_u64<R: Reader>(reader: &mut R) -> Result<u64, Error>
 {
     let mut bytes = [0u8; 8];
     reader.read_slice(&mut bytes)?;
-    Ok(match reader.endian() {
-        RunTimeEndian::Little => u64::from_le_bytes(bytes),
-        RunTimeEndian::Big => u64::from_be_bytes(bytes),
-    })
+    Ok(
+        match reader.endian() {
+            RunTimeEndian::Little => u64::from_le_bytes(bytes),
+            RunTimeEndian::Big => u64::from_be_bytes(bytes),
+        },
+    )
 }
 
 pub fn read_i8<R: Reader>(reader: &mut R) -> Result<i8, Error>

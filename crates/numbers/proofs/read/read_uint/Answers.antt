@@ -16,7 +16,7 @@ returns g c =
     let after : Meaning = g .R·Reader .means (c .read-slice .last .self) in
     let held = c .read-slice .last .buf in
     let d : Copied (c .args .n) m after held =
-        copied-is (c .args .n) (length (take (c .args .n - 0) zeros)) m after held (length-take (c .args .n - 0) zeros ∙ omega arith) (a .answers) (a .leaves)
+    copied-is (c .args .n) (length (take (c .args .n - 0) zeros)) m after held (length-take (c .args .n - 0) zeros ∙ omega arith) (a .answers) (a .leaves)
     in
     elim (c .if-eq .came) [
       | then-eq w ↦ uint-read (c .args .n) (c .from-le-bytes .result) m after held (w .reverse .last .self) (c .if-eq .bytes) (omega arith) d (search needs) (w .bytes-is) (c .from-le-bytes .ensures)
