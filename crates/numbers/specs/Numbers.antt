@@ -1,9 +1,10 @@
--- The numbers that are read by their width alone, signed ones, and the lengths and sizes that open a set.
-use Prim.Native.Nat.{ℕ, _-_, _*_, _^_}
+-- Numbers by their width, signed ones, initial lengths, and the sizes and sums of addresses.
+use Prim.Native.Nat.{ℕ, _+_, _-_, _*_, _^_}
 use mathlib.Core.Bool.{cond}
 use lib.Dec.{leb, ltb, eqb}
 use lib.IntN.{ℤ, pos, _-ℤ_}
 use Rattle.readers.specs.declared.common.Format.{Format}
+use Rattle.readers.specs.Outcome.{Outcome, answer, fault-of}
 use Rattle.readers.specs.Reading.{Meaning, Step, then, gives, refuses, fixed, word, is-size}
 use Rattle.readers.specs.Links.{word-of}
 
@@ -41,3 +42,19 @@ address-size m = then (fixed 1 m) (λ s a. cond (is-size s) (gives s a) (refuses
 -- a length with its format, as code answers it
 abbrev pub initial-is : {A : Type 0} → (A → ℕ) → A × Format → Initial
 initial-is f p = record { length = f (p .0); word = word-of (p .1) }
+
+-- what holds of addresses of s bytes, and the fault of a size that is none
+abbrev pub of-size : ℕ → Outcome ℕ → Outcome ℕ
+of-size s o = cond (is-size s) o (fault-of 4 s)
+
+-- the largest address
+abbrev pub ones : ℕ → Outcome ℕ
+ones s = of-size s (answer (2 ^ (8 * s) - 1))
+
+-- the least of those that stand for code which is not there
+abbrev pub tombstone : ℕ → Outcome ℕ
+tombstone s = of-size s (answer (2 ^ (8 * s) - 2))
+
+-- an address plus a length
+abbrev pub added : ℕ → ℕ → ℕ → Outcome ℕ
+added a l s = of-size s (cond (ltb (a + l) (2 ^ (8 * s))) (answer (a + l)) (fault-of 10 0))

@@ -1,6 +1,10 @@
-// Reads of numbers, written once for every reader.
+// Reads of numbers, written once for every reader, and addresses of a size.
+mod address;
 mod read;
 
+pub use address::add_sized;
+pub use address::min_tombstone;
+pub use address::ones_sized;
 pub use read::is_empty;
 pub use read::read_address_size;
 pub use read::read_i8;

@@ -1,0 +1,4 @@
+pub mod Sets
+pub mod Tuples
+pub mod Iterators
+pub mod Links
