@@ -5,7 +5,9 @@ mod error;
 mod reader;
 
 pub use common::DebugArangesOffset;
+pub use common::DebugArangesOffsetClone;
 pub use common::DebugInfoOffset;
+pub use common::DebugInfoOffsetClone;
 pub use common::Encoding;
 pub use common::Format;
 pub use endianity::RunTimeEndian;

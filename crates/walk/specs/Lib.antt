@@ -1,0 +1,4 @@
+pub mod Events
+pub mod Lookups
+pub mod State
+pub mod Links
