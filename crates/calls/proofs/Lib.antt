@@ -1,0 +1,15 @@
+pub mod Machine
+pub mod Replays
+pub mod Bridge
+pub mod LawAhead
+pub mod LawApart
+pub mod LawEarly
+pub mod LawHeard
+pub mod LawKeeps
+pub mod LawLaw
+pub mod LawLocal
+pub mod LawLooks
+pub mod LawPins
+pub mod LawRuns
+pub mod LawSpoilt
+pub mod LawTurns
