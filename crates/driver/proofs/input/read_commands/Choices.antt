@@ -1,0 +1,6 @@
+use lib.ListN.{length}
+use Rattle.slices.specs.Ends.{slice-means}
+use Rattle.driver.proofs.input.read_commands.Given as given
+
+abbrev pub μ-loop-input : given.MeasureT-loop-input
+μ-loop-input l = length (slice-means (l .input) .rest)

@@ -1,0 +1,159 @@
+// rangewalk's input: reader kind, byte order, relocation records, and commands.
+ghost use Prim.Native.Nat.{_<_};
+ghost use lib.ListN.{length};
+ghost use Rattle.std.specs.Vec.{made};
+ghost use Rattle.slices.specs.Ends.{slice-means};
+use calls::Call;
+use numbers::read_u8;
+use numbers::read_u16;
+use numbers::read_u64;
+use readers::Error;
+use readers::Reader;
+use readers::RunTimeEndian;
+use relocate::Relocation;
+use slices::EndianSlice;
+use slices::EndianSliceReader;
+use std::alloc::AllocError;
+use std::alloc::Global;
+use std::alloc::Refused;
+
+const MAX_RECORDS: u16 = 256;
+
+/// Why the reading of an input ended early.
+#[derive(Clone, Copy)]
+pub enum Stop {
+    /// The input is cut short, or has a letter or a value that means nothing.
+    Malformed,
+    NoMemory,
+}
+
+pub impl From<Error> for Stop as StopFromError {
+    fn from(_error: Error) -> Stop {
+        Stop::Malformed
+    }
+}
+
+pub impl From<AllocError> for Stop as StopFromAllocError {
+    fn from(_error: AllocError) -> Stop {
+        Stop::NoMemory
+    }
+}
+
+pub impl<T: Drop> From<Refused<T>> for Stop as StopFromRefused {
+    fn from(_refused: Refused<T>) -> Stop {
+        Stop::NoMemory
+    }
+}
+
+/// Which reader the section is opened with.
+#[derive(Clone, Copy)]
+pub enum ReaderKind {
+    EndianSlice,
+    EndianReader,
+    RelocatedSlice,
+    RelocatedReader,
+}
+
+pub fn read_kind(input: &mut EndianSlice) -> Result<ReaderKind, Stop> {
+    match read_u8(input)? {
+        0 => Ok(ReaderKind::EndianSlice),
+        1 => Ok(ReaderKind::EndianReader),
+        2 => Ok(ReaderKind::RelocatedSlice),
+        3 => Ok(ReaderKind::RelocatedReader),
+        _ => Err(Stop::Malformed),
+    }
+}
+
+pub fn read_order(input: &mut EndianSlice) -> Result<RunTimeEndian, Stop> {
+    match read_u8(input)? {
+        0 => Ok(RunTimeEndian::Little),
+        1 => Ok(RunTimeEndian::Big),
+        _ => Err(Stop::Malformed),
+    }
+}
+
+/// The number of records, and the records.
+pub fn read_records(heap: Global, input: &mut EndianSlice) -> Result<Vec<Relocation>, Stop> {
+    let count = read_u16(input)?;
+    if count > MAX_RECORDS {
+        return Err(Stop::Malformed);
+    }
+    let mut records = Vec::new(heap);
+    for _ in 0..count {
+        records.push(read_record(input)?)?;
+    }
+    Ok(records)
+}
+
+fn read_record(input: &mut EndianSlice) -> Result<Relocation, Error> {
+    let offset = read_u64(input)?;
+    let kind = read_u8(input)?;
+    let amount = read_u64(input)?;
+    Ok(Relocation {
+        offset,
+        kind,
+        amount,
+    })
+}
+
+/// What a command letter stands for.
+#[derive(Clone, Copy)]
+pub enum Command {
+    NextHeader,
+    Entries,
+    Next,
+    NextRaw,
+    /// An address follows, of eight bytes.
+    Lookup,
+}
+
+pub fn command_of(letter: char) -> Option<Command> {
+    match letter {
+        'H' => Some(Command::NextHeader),
+        'E' => Some(Command::Entries),
+        'N' => Some(Command::Next),
+        'R' => Some(Command::NextRaw),
+        'L' => Some(Command::Lookup),
+        _ => None,
+    }
+}
+
+/// The calls up to the first bad command, and whether there was none.
+#[derive(Drop)]
+pub struct Commands {
+    pub calls: Vec<Call>,
+    pub complete: bool,
+}
+
+pub fn read_commands(heap: Global, input: &mut EndianSlice) -> Result<Commands, AllocError> {
+    let mut calls = Vec::new(heap);
+    while input.len() > 0 {
+        match read_call(input) {
+            Ok(call) => calls.push(call)?,
+            Err(_) => {
+                return Ok(Commands {
+                    calls,
+                    complete: false,
+                });
+            }
+        }
+    }
+    Ok(Commands {
+        calls,
+        complete: true,
+    })
+}
+
+fn read_call(input: &mut EndianSlice) -> Result<Call, Stop>
+    ensures { λ r. ⌜ made r (λ _. length (slice-means (now (input .exit)) .rest) < length (slice-means (now (input .entry)) .rest)) ⌝ }
+{
+    let letter = read_u8(input)?;
+    match command_of(letter as char) {
+        Some(Command::NextHeader) => Ok(Call::NextHeader),
+        Some(Command::Entries) => Ok(Call::Entries),
+        Some(Command::Next) => Ok(Call::Next),
+        Some(Command::NextRaw) => Ok(Call::NextRaw),
+        Some(Command::Lookup) => Ok(Call::Lookup(read_u64(input)?)),
+        None => Err(Stop::Malformed),
+    }
+}

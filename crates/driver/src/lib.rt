@@ -1,0 +1,17 @@
+// What rangewalk does with its input: reads a section and commands, makes the calls, writes a line for each answer.
+mod input;
+mod names;
+mod output;
+mod run;
+
+pub use input::Command;
+pub use input::Commands;
+pub use input::ReaderKind;
+pub use input::Stop;
+pub use input::StopFromAllocError;
+pub use input::StopFromError;
+pub use input::StopFromRefused;
+pub use names::write_name;
+pub use output::line;
+pub use run::MAX_INPUT;
+pub use run::transcript;

@@ -1,0 +1,129 @@
+// rangewalk's output: one line for each answer.
+use crate::names::write_name;
+use aranges::ArangeEntry;
+use aranges::ArangeHeader;
+use calls::Answer;
+use readers::AddressReader;
+use readers::Error;
+use readers::Reader;
+use readers::ReaderOffset;
+use std::alloc::AllocError;
+use std::alloc::Global;
+use walk::Lookup;
+
+/// The line of an answer.
+pub fn line<R: AddressReader>(heap: Global, answer: &Answer<R>) -> Result<String, AllocError> {
+    match answer {
+        Answer::Header(result) => header_line(heap, result),
+        Answer::Entries(result) => entries_line(heap, result),
+        Answer::Next(result) => next_line(heap, result),
+        Answer::NextRaw(result) => next_raw_line(heap, result),
+        Answer::Lookup(_, result) => lookup_line(heap, result),
+    }
+}
+
+fn header_line<R: AddressReader>(
+    heap: Global,
+    result: &Result<Option<ArangeHeader<R>>, Error>,
+) -> Result<String, AllocError> {
+    match result {
+        Ok(Some(header)) => {
+            let place = header.offset().0;
+            let encoding = header.encoding();
+            let word_size = encoding.format.word_size();
+            let version = encoding.version;
+            let address_size = encoding.address_size;
+            let info_offset = header.debug_info_offset().0.into_u64();
+            format!(heap, "H {place} {word_size} {version} {address_size} {info_offset}\n")
+        }
+        Ok(None) => none_line(heap),
+        Err(error) => fault_line(heap, *error),
+    }
+}
+
+fn entries_line(heap: Global, result: &Result<(), Error>) -> Result<String, AllocError> {
+    match result {
+        Ok(()) => String::from_str(heap, "E\n"),
+        Err(error) => fault_line(heap, *error),
+    }
+}
+
+fn next_line(
+    heap: Global,
+    result: &Result<Option<ArangeEntry>, Error>,
+) -> Result<String, AllocError> {
+    match result {
+        Ok(Some(entry)) => {
+            let begin = entry.range().begin;
+            let end = entry.range().end;
+            let length = entry.length();
+            format!(heap, "N {begin} {end} {length}\n")
+        }
+        Ok(None) => none_line(heap),
+        Err(error) => fault_line(heap, *error),
+    }
+}
+
+fn next_raw_line(
+    heap: Global,
+    result: &Result<Option<ArangeEntry>, Error>,
+) -> Result<String, AllocError> {
+    match result {
+        Ok(Some(entry)) => {
+            let begin = entry.address();
+            let length = entry.length();
+            format!(heap, "R {begin} {length}\n")
+        }
+        Ok(None) => none_line(heap),
+        Err(error) => fault_line(heap, *error),
+    }
+}
+
+fn lookup_line<O: ReaderOffset>(
+    heap: Global,
+    result: &Result<Lookup<O>, Error>,
+) -> Result<String, AllocError> {
+    match result {
+        Ok(lookup) => {
+            let passed = lookup.passed;
+            match lookup.found {
+                Some(found) => {
+                    let begin = found.entry.range().begin;
+                    let end = found.entry.range().end;
+                    let info_offset = found.debug_info_offset.0.into_u64();
+                    let set = found.set.0;
+                    format!(heap, "L {begin} {end} {info_offset} {set} {passed}\n")
+                }
+                None => format!(heap, "- {passed}\n"),
+            }
+        }
+        Err(error) => fault_line(heap, *error),
+    }
+}
+
+fn none_line(heap: Global) -> Result<String, AllocError> {
+    String::from_str(heap, "-\n")
+}
+
+fn fault_line(heap: Global, error: Error) -> Result<String, AllocError> {
+    let mut line = String::from_str(heap, "! ")?;
+    write_name(&mut line, error)?;
+    let payload = payload(error);
+    let end = format!(heap, " {payload}\n")?;
+    line.push_str(end.as_str())?;
+    Ok(line)
+}
+
+fn payload(error: Error) -> u64 {
+    match error {
+        Error::UnexpectedEof(id) => id.0,
+        Error::UnknownReservedLength(value) => value as u64,
+        Error::UnknownVersion(version) => version as u64,
+        Error::UnsupportedAddressSize(size) => size as u64,
+        Error::UnsupportedSegmentSize(size) => size as u64,
+        Error::UnsupportedOffsetSize(size) => size as u64,
+        Error::RelocationRefused(offset) => offset,
+        Error::BadLength(len) => len as u64,
+        _ => 0,
+    }
+}
