@@ -34,7 +34,10 @@ fn header_line<R: AddressReader>(
             let version = encoding.version;
             let address_size = encoding.address_size;
             let info_offset = header.debug_info_offset().0.into_u64();
-            format!(heap, "H {place} {word_size} {version} {address_size} {info_offset}\n")
+            format!(
+                heap,
+                "H {place} {word_size} {version} {address_size} {info_offset}\n"
+            )
         }
         Ok(None) => none_line(heap),
         Err(error) => fault_line(heap, *error),

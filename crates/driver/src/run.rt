@@ -52,7 +52,15 @@ fn write_lines(heap: Global, input: &[u8], out: &mut String) -> Result<(), Stop>
     let length = read_u32(&mut input)? as usize;
     let section = input.split(length)?;
     let commands = read_commands(heap, &mut input)?;
-    write_answers(heap, kind, endian, &records, section.slice(), &commands.calls, out)?;
+    write_answers(
+        heap,
+        kind,
+        endian,
+        &records,
+        section.slice(),
+        &commands.calls,
+        out,
+    )?;
     if commands.complete {
         Ok(())
     } else {
