@@ -1,5 +1,5 @@
 use lib.ListN.{length}
-use Rattle.slices.specs.Ends.{slice-means}
+use Rattle.endian_slice.specs.Means.{slice-means}
 use Rattle.driver.proofs.input.read_commands.Given as given
 
 abbrev pub μ-loop-input : given.MeasureT-loop-input
