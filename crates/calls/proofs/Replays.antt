@@ -13,7 +13,8 @@ use Rattle.walk.specs.Events.{Event, entries, told}
 use Rattle.calls.specs.Law.{Call, call, next-header, entries-call, next-call, lookup-call}
 use Rattle.walk.specs.State.{Walk, Turn, open-walk}
 use Rattle.aranges.specs.Iterators.{Left, draw, entries-of}
-use Rattle.calls.specs.Replay.{step, replay-from, replay}
+use Rattle.calls.specs.Turns.{step}
+use Rattle.calls.proofs.Replay.{replay-from, replay}
 use Rattle.readers.specs.Reading.{Meaning}
 use Rattle.walk.specs.Links.{Took}
 

@@ -1,30 +1,16 @@
--- What is owed of one walk's history, and what the law says of all.
+-- What is owed of every history of calls on one walk.
 use Prim.Native.Nat.{ℕ}
 use mathlib.Core.Path.{_≡_}
 use mathlib.Core.List.{List, map}
 use Rattle.readers.specs.Reading.{Meaning}
-use Rattle.aranges.specs.Sets.{Header}
-use Rattle.calls.specs.Runs.{Longest}
 use Rattle.walk.specs.Events.{Event}
 use Rattle.calls.specs.Law.{call, History, Apart}
 
--- it keeps the law, and one set's tuples bear on nothing else
-abbrev pub Owed : ℕ → Meaning → List Event → Type 0
-Owed limit m es = History limit m es × Apart limit m es
-
--- every section has one longest run of whole sets
-abbrev pub One-longest : Type 0
-One-longest =
-    (limit : ℕ) (m : Meaning)
-    → (hs : List Header) × (q : ℕ) × Longest limit m hs q
-    × ((gs : List Header) (p : ℕ) → Longest limit m gs p → (gs ≡ hs) × (p ≡ q))
-
--- the law leaves no answer open
-abbrev pub Pins-answers : Type 0
-Pins-answers =
-    (limit : ℕ) (m : Meaning) (es es2 : List Event)
-    → History limit m es → History limit m es2 → map call es2 ≡ map call es → es2 ≡ es
-
--- one set's tuples bear on nothing else
-abbrev pub Sets-apart : Type 0
-Sets-apart = (limit : ℕ) (m : Meaning) (es : List Event) → History limit m es → Apart limit m es
+-- the whole law, of the events es on one walk over the section m, whose offsets stay below the limit
+pub record Owed (limit : ℕ) (m : Meaning) (es : List Event) : Type 0 where
+  -- headers come in order, entries and tuples answer by the set that they are on, and lookups by the whole section
+  pub history : History limit m es
+  -- however one set's tuples are spoilt, the rest reads as before
+  pub apart : Apart limit m es
+  -- no answer is left open: there is no other history of the same calls
+  pub only : (es2 : List Event) → History limit m es2 → map call es2 ≡ map call es → es2 ≡ es

@@ -2,5 +2,5 @@ pub mod Runs
 pub mod Reads
 pub mod Law
 pub mod Laws
-pub mod Replay
+pub mod Turns
 pub mod Links

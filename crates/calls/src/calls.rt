@@ -7,7 +7,7 @@ ghost use Rattle.std.specs.Vec.{made};
 ghost use Rattle.walk.specs.Links.{walk-is, Took};
 ghost use Rattle.calls.specs.Law.{call};
 ghost use Rattle.calls.specs.Laws.{Owed};
-ghost use Rattle.calls.specs.Replay.{step};
+ghost use Rattle.calls.specs.Turns.{step};
 ghost use Rattle.calls.specs.Links.{call-is, event-is};
 use aranges::ArangeEntry;
 use aranges::ArangeHeader;

@@ -4,7 +4,7 @@ use lib.ListN.{length, getD}
 use Rattle.std.specs.Of.Vec.{vec-items}
 use Rattle.std.proofs.shelf.Results.{made-from-err}
 use Rattle.calls.specs.declared.calls.Call.the-variants.{NextHeader}
-use Rattle.calls.specs.Replay.{replay-from, replay}
+use Rattle.calls.proofs.Replay.{replay-from, replay}
 use mathlib.Core.List.{map}
 use Rattle.calls.specs.Links.{call-is, event-is}
 use Rattle.walk.specs.Links.{walk-is}

@@ -2,7 +2,7 @@ use mathlib.Core.Path.{_≡_}
 use mathlib.Core.List.{_++_, map}
 use lib.ListN.{drop}
 use Rattle.std.specs.Of.Vec.{vec-items}
-use Rattle.calls.specs.Replay.{replay-from}
+use Rattle.calls.proofs.Replay.{replay-from}
 use Rattle.calls.specs.Links.{call-is, event-is}
 use Rattle.walk.specs.Links.{walk-is}
 use Rattle.calls.proofs.calls.answer_calls.Given as given
