@@ -4,9 +4,10 @@ ghost use mathlib.Core.Path.{_≡_};
 ghost use lib.Dec.{leb};
 ghost use lib.ListN.{length, take, drop};
 ghost use Rattle.std.specs.Vec.{made};
-ghost use Rattle.readers.specs.Links.{outcome-is, is-big};
+ghost use Rattle.readers.specs.Links.{Did, Filled, outcome-is, is-big};
 ghost use Rattle.readers.specs.Sections.{part, id-of, opened, highest};
-ghost use Rattle.endian_slice.specs.Means.{slice-means};
+ghost use Rattle.readers.specs.Reading.{emptied, skipped, truncated, split-off, copied};
+ghost use Rattle.endian_slice.specs.Means.{slice-means, Kept};
 use numbers::read_plain_address;
 use numbers::read_plain_sized_offset;
 use numbers::read_word;
@@ -102,11 +103,17 @@ pub impl Reader for EndianSlice<'_> as EndianSliceReader {
         *self
     }
 
-    fn empty(&mut self) {
+    fn empty(&mut self)
+        ensures did { λ _. ⌜ slice-means (now (self .exit)) ≡ emptied (slice-means (now (self .entry))) ⌝ }
+        ensures kept { λ _. ⌜ Kept (now (self .exit)) (now (self .entry)) ⌝ }
+    {
         self.end = self.first;
     }
 
-    fn truncate(&mut self, len: usize) -> Result<(), Error> {
+    fn truncate(&mut self, len: usize) -> Result<(), Error>
+        ensures did { λ r. ⌜ Did (λ x. x) r (slice-means (now (self .exit))) (truncated len (slice-means (now (self .entry)))) ⌝ }
+        ensures kept { λ _. ⌜ Kept (now (self .exit)) (now (self .entry)) ⌝ }
+    {
         if len > self.left() {
             return Err(Error::UnexpectedEof(self.offset_id()));
         }
@@ -114,7 +121,10 @@ pub impl Reader for EndianSlice<'_> as EndianSliceReader {
         Ok(())
     }
 
-    fn skip(&mut self, len: usize) -> Result<(), Error> {
+    fn skip(&mut self, len: usize) -> Result<(), Error>
+        ensures did { λ r. ⌜ Did (λ x. x) r (slice-means (now (self .exit))) (skipped len (slice-means (now (self .entry)))) ⌝ }
+        ensures kept { λ _. ⌜ Kept (now (self .exit)) (now (self .entry)) ⌝ }
+    {
         if len > self.left() {
             return Err(Error::UnexpectedEof(self.offset_id()));
         }
@@ -122,7 +132,11 @@ pub impl Reader for EndianSlice<'_> as EndianSliceReader {
         Ok(())
     }
 
-    fn split(&mut self, len: usize) -> Result<Self, Error> {
+    fn split(&mut self, len: usize) -> Result<Self, Error>
+        ensures did { λ r. ⌜ Did slice-means r (slice-means (now (self .exit))) (split-off len (slice-means (now (self .entry)))) ⌝ }
+        ensures kept { λ _. ⌜ Kept (now (self .exit)) (now (self .entry)) ⌝ }
+        ensures part { λ r. ⌜ made r (λ front. Kept front (now (self .entry))) ⌝ }
+    {
         if len > self.left() {
             return Err(Error::UnexpectedEof(self.offset_id()));
         }
@@ -138,7 +152,10 @@ pub impl Reader for EndianSlice<'_> as EndianSliceReader {
         Ok(front)
     }
 
-    fn read_slice(&mut self, buf: &mut [u8]) -> Result<(), Error> {
+    fn read_slice(&mut self, buf: &mut [u8]) -> Result<(), Error>
+        ensures did { λ r. ⌜ Filled r (now (buf .entry)) (now (buf .exit)) (slice-means (now (self .exit))) (copied (length (now (buf .entry))) (slice-means (now (self .entry)))) ⌝ }
+        ensures kept { λ _. ⌜ Kept (now (self .exit)) (now (self .entry)) ⌝ }
+    {
         let len = buf.len();
         if len > self.left() {
             return Err(Error::UnexpectedEof(self.offset_id()));

@@ -1,4 +1,6 @@
 // The faults of every call: a closed list of fourteen.
+ghost use mathlib.Core.Path.{_≡_};
+ghost use Rattle.readers.specs.Links.{fault-is};
 use crate::reader::ReaderOffsetId;
 use crate::reader::ReaderOffsetIdDebug;
 use crate::reader::ReaderOffsetIdPartialEq;
@@ -34,4 +36,28 @@ pub enum Error {
     RelocationRefused(u64),
     /// A number of more bytes than eight.
     BadLength(usize),
+}
+
+impl Error {
+    /// What the fault tells beside its name, 0 where that is nothing.
+    pub fn payload(self) -> u64
+        ensures { λ r. ⌜ r ≡ fault-is self .payload ⌝ }
+    {
+        match self {
+            Error::UnexpectedEof(id) => id.0,
+            Error::UnknownReservedLength(value) => value as u64,
+            Error::UnknownVersion(version) => version as u64,
+            Error::UnsupportedAddressSize(size) => size as u64,
+            Error::UnsupportedSegmentSize(size) => size as u64,
+            Error::UnsupportedOffset => 0,
+            Error::UnsupportedOffsetSize(size) => size as u64,
+            Error::BadUnsignedLeb128 => 0,
+            Error::BadSignedLeb128 => 0,
+            Error::AddressOverflow => 0,
+            Error::SectionTooLong => 0,
+            Error::NothingOpen => 0,
+            Error::RelocationRefused(offset) => offset,
+            Error::BadLength(len) => len as u64,
+        }
+    }
 }
