@@ -1,10 +1,13 @@
 // A line of input and its answer. `KIND ORDER HEX CALL` or `KIND ORDER HEX CALL:NUMBER` makes a call on a fresh reader
-// (kind 0 EndianSlice, 1 EndianReader; order 0 Little, 1 Big; `-` for no bytes); `wu NUMBER` and `ws NUMBER` write LEB128.
+// (kind 0 EndianSlice, 1 EndianReader; order 0 Little, 1 Big; `-` for no bytes); `wu NUMBER` and `ws NUMBER` write LEB128;
+// `reloc KIND ORDER HEX RECORDS RECORDS SKIP CALL:NUMBER` skips bytes under one table and calls under two.
 use crate::call::ReadCall;
 use crate::call::Values;
 use crate::call::call_with;
 use crate::call::call_without;
 use crate::call::perform;
+use crate::relocated::read_records;
+use crate::relocated::read_relocated;
 use driver::write_name;
 use endian_reader::EndianReader;
 use endian_reader::EndianReaderAddress;
@@ -25,34 +28,25 @@ use std::alloc::Global;
 
 /// The answer to a line, or that it is a bad one.
 pub fn answer(heap: Global, text: &str) -> Result<String, AllocError> {
-    let mut words = text.split(' ');
-    let Some(first) = words.next() else {
-        return bad_line(heap);
-    };
-    let Some(second) = words.next() else {
-        return bad_line(heap);
-    };
-    if first == "wu" {
-        return match second.parse::<u64>() {
-            Ok(number) => encode(heap, Leb128::unsigned(number).bytes()),
-            Err(_) => bad_line(heap),
-        };
+    match text.split_once(' ') {
+        Some(("wu", number)) => written_unsigned(heap, number),
+        Some(("ws", number)) => written_signed(heap, number),
+        Some(("reloc", rest)) => relocated_line(heap, rest),
+        _ => plain_line(heap, text),
     }
-    if first == "ws" {
-        return match second.parse::<i64>() {
-            Ok(number) => encode(heap, Leb128::signed(number).bytes()),
-            Err(_) => bad_line(heap),
-        };
+}
+
+fn written_unsigned(heap: Global, number: &str) -> Result<String, AllocError> {
+    match number.parse::<u64>() {
+        Ok(number) => encode(heap, Leb128::unsigned(number).bytes()),
+        Err(_) => bad_line(heap),
     }
-    let Some(digits) = words.next() else {
-        return bad_line(heap);
-    };
-    let Some(call) = words.next() else {
-        return bad_line(heap);
-    };
-    match call_of(call) {
-        Some(call) => read_line(heap, first, second, digits, call),
-        None => bad_line(heap),
+}
+
+fn written_signed(heap: Global, number: &str) -> Result<String, AllocError> {
+    match number.parse::<i64>() {
+        Ok(number) => encode(heap, Leb128::signed(number).bytes()),
+        Err(_) => bad_line(heap),
     }
 }
 
@@ -70,34 +64,72 @@ fn call_of(text: &str) -> Option<ReadCall> {
     }
 }
 
-// A call on a fresh reader over the bytes.
-fn read_line(
-    heap: Global,
-    kind: &str,
-    order: &str,
-    digits: &str,
-    call: ReadCall,
-) -> Result<String, AllocError> {
-    let bytes = decode(heap, digits.as_bytes())?;
-    let endian = if order == "0" {
+fn order_of(text: &str) -> RunTimeEndian {
+    if text == "0" {
         RunTimeEndian::Little
     } else {
         RunTimeEndian::Big
+    }
+}
+
+// A call on a fresh reader over the bytes.
+fn plain_line(heap: Global, text: &str) -> Result<String, AllocError> {
+    let mut words = text.split(' ');
+    let (Some(kind), Some(order), Some(digits), Some(name)) =
+        (words.next(), words.next(), words.next(), words.next())
+    else {
+        return bad_line(heap);
     };
+    let Some(call) = call_of(name) else {
+        return bad_line(heap);
+    };
+    let bytes = decode(heap, digits.as_bytes())?;
     if kind == "0" {
-        match EndianSlice::new(bytes.as_slice(), 0, endian) {
+        match EndianSlice::new(bytes.as_slice(), 0, order_of(order)) {
             Ok(reader) => read_text(heap, reader, call),
             Err(error) => fault_text(heap, error),
         }
     } else {
-        match EndianReader::new(bytes.as_slice(), 0, endian) {
+        match EndianReader::new(bytes.as_slice(), 0, order_of(order)) {
             Ok(reader) => read_text(heap, reader, call),
             Err(error) => fault_text(heap, error),
         }
     }
 }
 
-fn read_text<R: AddressReader>(
+// A call under two tables, behind some bytes that were skipped under the first.
+fn relocated_line(heap: Global, text: &str) -> Result<String, AllocError> {
+    let mut words = text.split(' ');
+    let (Some(kind), Some(order), Some(digits)) = (words.next(), words.next(), words.next()) else {
+        return bad_line(heap);
+    };
+    let (Some(first), Some(second)) = (words.next(), words.next()) else {
+        return bad_line(heap);
+    };
+    let (Some(skipped), Some(name)) = (words.next(), words.next()) else {
+        return bad_line(heap);
+    };
+    let (Ok(skipped), Some(call)) = (skipped.parse::<u64>(), call_of(name)) else {
+        return bad_line(heap);
+    };
+    let bytes = decode(heap, digits.as_bytes())?;
+    let first = read_records(heap, first)?;
+    let second = read_records(heap, second)?;
+    if kind == "0" {
+        match EndianSlice::new(bytes.as_slice(), 0, order_of(order)) {
+            Ok(reader) => read_relocated(heap, reader, &first, &second, skipped, call),
+            Err(error) => fault_text(heap, error),
+        }
+    } else {
+        match EndianReader::new(bytes.as_slice(), 0, order_of(order)) {
+            Ok(reader) => read_relocated(heap, reader, &first, &second, skipped, call),
+            Err(error) => fault_text(heap, error),
+        }
+    }
+}
+
+/// Makes a call on a reader, and tells what it answered and how many bytes are left.
+pub fn read_text<R: AddressReader>(
     heap: Global,
     reader: R,
     call: ReadCall,
@@ -119,8 +151,8 @@ fn read_text<R: AddressReader>(
     }
 }
 
-// A fault's name and payload.
-fn fault_text(heap: Global, error: Error) -> Result<String, AllocError> {
+/// A fault's name and payload.
+pub fn fault_text(heap: Global, error: Error) -> Result<String, AllocError> {
     let mut name = String::new(heap);
     write_name(&mut name, error)?;
     let payload = error.payload();

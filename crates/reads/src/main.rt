@@ -1,6 +1,7 @@
 // reads: makes one reader call for each line of standard input, and writes what it answered and how many bytes are left.
 mod call;
 mod line;
+mod relocated;
 
 use crate::line::answer;
 use std::io;
