@@ -1,8 +1,15 @@
 // rangewalk's input: reader kind, byte order, relocation records, and commands.
 ghost use Prim.Native.Nat.{_<_};
+ghost use mathlib.Core.Path.{_≡_};
+ghost use mathlib.Core.List.{map};
 ghost use lib.ListN.{length};
-ghost use Rattle.std.specs.Vec.{made};
+ghost use Rattle.std.specs.Of.Vec.{vec-items};
+ghost use Rattle.std.specs.Vec.{made, refused};
+ghost use Rattle.readers.specs.Links.{Did, is-big};
 ghost use Rattle.endian_slice.specs.Means.{slice-means};
+ghost use Rattle.calls.specs.Links.{call-is};
+ghost use Rattle.driver.specs.declared.input.Stop.the-variants.{Malformed, NoMemory};
+ghost use Rattle.driver.specs.Input.{Read, Asks, kind-step, order-step, record-step, records-step, command-for, call-step};
 use calls::Call;
 use endian_slice::EndianSlice;
 use endian_slice::EndianSliceReader;
@@ -28,18 +35,24 @@ pub enum Stop {
 }
 
 pub impl From<Error> for Stop as StopFromError {
+    ghost converts = { λ _ r. r ≡ Malformed };
+
     fn from(_error: Error) -> Stop {
         Stop::Malformed
     }
 }
 
 pub impl From<AllocError> for Stop as StopFromAllocError {
+    ghost converts = { λ _ r. r ≡ NoMemory };
+
     fn from(_error: AllocError) -> Stop {
         Stop::NoMemory
     }
 }
 
 pub impl<T: Drop> From<Refused<T>> for Stop as StopFromRefused {
+    ghost converts = { λ _ r. r ≡ NoMemory };
+
     fn from(_refused: Refused<T>) -> Stop {
         Stop::NoMemory
     }
@@ -54,7 +67,9 @@ pub enum ReaderKind {
     RelocatedReader,
 }
 
-pub fn read_kind(input: &mut EndianSlice) -> Result<ReaderKind, Stop> {
+pub fn read_kind(input: &mut EndianSlice) -> Result<ReaderKind, Stop>
+    ensures { λ r. ⌜ Read (λ x. x) r (slice-means (now (input .exit))) (kind-step (slice-means (now (input .entry)))) ⌝ }
+{
     match read_u8(input)? {
         0 => Ok(ReaderKind::EndianSlice),
         1 => Ok(ReaderKind::EndianReader),
@@ -64,7 +79,9 @@ pub fn read_kind(input: &mut EndianSlice) -> Result<ReaderKind, Stop> {
     }
 }
 
-pub fn read_order(input: &mut EndianSlice) -> Result<RunTimeEndian, Stop> {
+pub fn read_order(input: &mut EndianSlice) -> Result<RunTimeEndian, Stop>
+    ensures { λ r. ⌜ Read is-big r (slice-means (now (input .exit))) (order-step (slice-means (now (input .entry)))) ⌝ }
+{
     match read_u8(input)? {
         0 => Ok(RunTimeEndian::Little),
         1 => Ok(RunTimeEndian::Big),
@@ -73,7 +90,9 @@ pub fn read_order(input: &mut EndianSlice) -> Result<RunTimeEndian, Stop> {
 }
 
 /// The number of records, and the records.
-pub fn read_records(heap: Global, input: &mut EndianSlice) -> Result<Vec<Relocation>, Stop> {
+pub fn read_records(heap: Global, input: &mut EndianSlice) -> Result<Vec<Relocation>, Stop>
+    ensures { λ r. ⌜ Read vec-items r (slice-means (now (input .exit))) (records-step (slice-means (now (input .entry)))) ⌝ }
+{
     let count = read_u16(input)?;
     if count > MAX_RECORDS {
         return Err(Stop::Malformed);
@@ -85,7 +104,9 @@ pub fn read_records(heap: Global, input: &mut EndianSlice) -> Result<Vec<Relocat
     Ok(records)
 }
 
-fn read_record(input: &mut EndianSlice) -> Result<Relocation, Error> {
+fn read_record(input: &mut EndianSlice) -> Result<Relocation, Error>
+    ensures { λ r. ⌜ Did (λ x. x) r (slice-means (now (input .exit))) (record-step (slice-means (now (input .entry)))) ⌝ }
+{
     let offset = read_u64(input)?;
     let kind = read_u8(input)?;
     let amount = read_u64(input)?;
@@ -107,7 +128,9 @@ pub enum Command {
     Lookup,
 }
 
-pub fn command_of(letter: char) -> Option<Command> {
+pub fn command_of(letter: char) -> Option<Command>
+    ensures { λ r. ⌜ r ≡ command-for letter ⌝ }
+{
     match letter {
         'H' => Some(Command::NextHeader),
         'E' => Some(Command::Entries),
@@ -125,10 +148,12 @@ pub struct Commands {
     pub complete: bool,
 }
 
-pub fn read_commands(heap: Global, input: &mut EndianSlice) -> Result<Commands, AllocError> {
+pub fn read_commands(heap: Global, mut input: EndianSlice) -> Result<Commands, AllocError>
+    ensures { λ r. ⌜ made r (λ c. Asks (slice-means (input .entry)) (map call-is (vec-items (c .calls))) (c .complete)) ⌝ }
+{
     let mut calls = Vec::new(heap);
     while input.len() > 0 {
-        match read_call(input) {
+        match read_call(&mut input) {
             Ok(call) => calls.push(call)?,
             Err(_) => {
                 return Ok(Commands {
@@ -145,7 +170,9 @@ pub fn read_commands(heap: Global, input: &mut EndianSlice) -> Result<Commands, 
 }
 
 fn read_call(input: &mut EndianSlice) -> Result<Call, Stop>
-    ensures { λ r. ⌜ made r (λ _. length (slice-means (now (input .exit)) .rest) < length (slice-means (now (input .entry)) .rest)) ⌝ }
+    ensures read { λ r. ⌜ Read call-is r (slice-means (now (input .exit))) (call-step (slice-means (now (input .entry)))) ⌝ }
+    ensures malformed { λ r. ⌜ refused r (λ e. e ≡ Malformed) ⌝ }
+    ensures shorter { λ r. ⌜ made r (λ _. length (slice-means (now (input .exit)) .rest) < length (slice-means (now (input .entry)) .rest)) ⌝ }
 {
     let letter = read_u8(input)?;
     match command_of(letter as char) {

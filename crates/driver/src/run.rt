@@ -51,7 +51,7 @@ fn write_lines(heap: Global, input: &[u8], out: &mut String) -> Result<(), Stop>
     let records = read_records(heap, &mut input)?;
     let length = read_u32(&mut input)? as usize;
     let section = input.split(length)?;
-    let commands = read_commands(heap, &mut input)?;
+    let commands = read_commands(heap, input)?;
     write_answers(
         heap,
         kind,
