@@ -8,7 +8,7 @@ use lib.Dec.{leb}
 use lib.ListN.{length}
 use Rattle.std.specs.Results.{ErrBy}
 use Rattle.std.proofs.shelf.Results.{err-from-errBy}
-use Rattle.std.proofs.shelf.Tests.{le-leb}
+use Rattle.std.proofs.shelf.Tests.{le-leb, false≢true}
 use Rattle.std.specs.declared.option.Option.{Option}
 use Rattle.std.specs.declared.option.Option.the-variants.{Some, None}
 use Rattle.std.specs.declared.result.Result.{Result}
@@ -17,7 +17,7 @@ use Rattle.readers.specs.declared.error.Error.{Error}
 use Rattle.readers.specs.Outcome.{Outcome, Fault, answer, fault}
 use Rattle.readers.specs.Reading.{Meaning, Step, fixed, then, gives}
 use Rattle.readers.specs.Links.{Did, fault-is}
-use Rattle.readers.proofs.Steps.{ends, then-did, then-refused, then-then, then-same, then-gives}
+use Rattle.readers.proofs.Steps.{ends, then-did, then-refused, then-answered, then-then, then-same, then-gives}
 use Rattle.relocate.specs.declared.policy.Relocation.{Relocation}
 use Rattle.calls.specs.declared.calls.Call.{Call}
 use Rattle.calls.specs.declared.calls.Call.the-variants.{Lookup as AskLookup}
@@ -28,7 +28,7 @@ use Rattle.driver.specs.declared.input.Stop.{Stop}
 use Rattle.driver.specs.declared.input.Stop.the-variants.{Malformed, NoMemory}
 use Rattle.driver.specs.declared.input.Command.{Command}
 use Rattle.driver.specs.declared.input.Command.the-variants.{Lookup}
-use Rattle.driver.specs.Input.{Read, malformed, record-step, joined, some-records, from-count, records-step, command-for, a-lookup, by-command, by-letter, call-step, Asks, end, bad, good}
+use Rattle.driver.specs.Input.{Read, is-fault, malformed, record-step, joined, some-records, from-count, records-step, command-for, a-lookup, by-command, by-letter, call-step, Asks, end, bad, good}
 
 -- a step that ends so was read
 pub gave : {A B : Type 0} (f : A → B) (x : A) (a : Meaning) (s : Step B) → s ≡ gives (f x) a → Read f (Ok x) a s
@@ -43,6 +43,30 @@ pub unsaid : {A B : Type 0} (f : A → B) (r : Result A Stop) (a : Meaning) (s :
 unsaid f r a s by =
     let p = err-from-errBy r by in
     rw (p .1, p .2) tt
+
+-- what follows a step that was read
+pub read-on : {B C : Type 0} {y : B} {a : Meaning} (s : Step B) (k : B → Meaning → Step C)
+    → (answer y ≡ s .outcome) × (a ≡ s .after) → then s k ≡ k y a
+read-on {y = y} {a = a} s k r = then-answered s k y a (r .0) (r .1)
+
+stops-by : {B C : Type 0} (o : Outcome B) (z : Meaning) (k : B → Meaning → Step C) → is-fault o ≡ true
+    → (is-fault (then (ends o z) k .outcome) ≡ true) × (z ≡ then (ends o z) k .after)
+stops-by (answer x) z k e = absurd (false≢true e)
+stops-by (fault x) z k e = (refl, refl)
+
+stops-at : {A B C X : Type 0} (f : A → B) (g : X → C) (y : Stop) (a : Meaning) (s : Step B) (k : B → Meaning → Step C)
+    → Read f (Err y) a s → Read g (Err y) a (then s k)
+stops-at f g Malformed a s k r =
+    let q = stops-by (s .outcome) (s .after) k (r .0) in
+    (q .0, r .1 ∙ q .1)
+stops-at f g NoMemory a s k r = tt
+
+-- what stops a step stops the whole
+pub stops : {A B C X : Type 0} (f : A → B) (g : X → C) (r : Result X Stop) (y : Stop) (a : Meaning) (s : Step B) (k : B → Meaning → Step C) (t : Step C)
+    → ErrBy r (λ z. z ≡ y) → Read f (Err y) a s → t ≡ then s k → Read g r a t
+stops f g r y a s k t by read e =
+    let p = err-from-errBy r by in
+    rw (p .1, p .2, e) (stops-at f g y a s k read)
 
 -- a lookup's letter and its address are a lookup's call
 by-letter-at : (l : ℕ) (c : Command) (m : Meaning) → Some c ≡ command-for l → by-letter l m ≡ by-command c m

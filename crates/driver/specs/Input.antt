@@ -5,12 +5,15 @@ use mathlib.Core.List.{List, [], _∷_}
 use mathlib.Core.Bool.{Bool, true, false, cond}
 use lib.Dec.{leb, eqb}
 use lib.ListN.{length}
+use denote.Ref.{now}
+use Rattle.std.specs.Of.Vec.{vec-items}
 use Rattle.std.specs.declared.option.Option.{Option}
 use Rattle.std.specs.declared.option.Option.the-variants.{Some, None}
 use Rattle.std.specs.declared.result.Result.{Result}
 use Rattle.std.specs.declared.result.Result.the-variants.{Ok, Err}
 use Rattle.readers.specs.Outcome.{Outcome, answer, fault}
-use Rattle.readers.specs.Reading.{Meaning, Step, fixed, split-off, then, gives, refuses}
+use Rattle.readers.specs.Reading.{Meaning, Step, fixed, copied, then, gives, refuses}
+use Rattle.readers.specs.Links.{is-big}
 use Rattle.relocate.specs.declared.policy.Relocation.{Relocation}
 use Rattle.calls.specs.Law.{Call, next-header, entries-call, next-call, lookup-call}
 use Rattle.aranges.specs.Tuples.{raw, converted}
@@ -18,6 +21,7 @@ use Rattle.driver.specs.declared.input.Stop.{Stop}
 use Rattle.driver.specs.declared.input.Stop.the-variants.{Malformed, NoMemory}
 use Rattle.driver.specs.declared.input.ReaderKind.{ReaderKind}
 use Rattle.driver.specs.declared.input.ReaderKind.the-variants.{EndianSlice, EndianReader, RelocatedSlice, RelocatedReader}
+use Rattle.driver.specs.declared.input.Head.{Head}
 use Rattle.driver.specs.declared.input.Command.{Command}
 use Rattle.driver.specs.declared.input.Command.the-variants.{NextHeader, Entries, Next, NextRaw, Lookup}
 
@@ -89,8 +93,39 @@ abbrev pub records-step : Meaning → Step (List Relocation)
 records-step m = then (fixed 2 m) from-count
 
 -- a section: its length of four bytes, and as many bytes
-abbrev pub section-step : Meaning → Step Meaning
-section-step m = then (fixed 4 m) split-off
+abbrev pub section-step : Meaning → Step (List ℕ)
+section-step m = then (fixed 4 m) copied
+
+-- what an input says before its commands
+pub record Heading : Type 0 where
+  pub kind : ReaderKind
+  pub big : Bool
+  pub records : List Relocation
+  pub section : List ℕ
+
+-- its parts in their order, here from the last to the first
+abbrev pub a-heading : ReaderKind → Bool → List Relocation → List ℕ → Meaning → Step Heading
+a-heading k b rs s m = gives (record { kind = k; big = b; records = rs; section = s }) m
+
+-- behind the records stands the section
+abbrev pub from-records : ReaderKind → Bool → List Relocation → Meaning → Step Heading
+from-records k b rs m = then (section-step m) (a-heading k b rs)
+
+-- behind the byte order stand the records
+abbrev pub from-order : ReaderKind → Bool → Meaning → Step Heading
+from-order k b m = then (records-step m) (from-records k b)
+
+-- behind the reader kind stands the byte order
+abbrev pub from-reader : ReaderKind → Meaning → Step Heading
+from-reader k m = then (order-step m) (from-order k)
+
+-- all of it
+abbrev pub heading-step : Meaning → Step Heading
+heading-step m = then (kind-step m) from-reader
+
+-- the same as code answers it
+abbrev pub heading-is : Head → Heading
+heading-is h = record { kind = h .kind; big = is-big (h .endian); records = vec-items (h .records); section = now (h .section) }
 
 -- what a letter stands for: H, E, N, R or L
 abbrev pub command-for : ℕ → Option Command

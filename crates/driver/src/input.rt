@@ -1,5 +1,5 @@
 // rangewalk's input: reader kind, byte order, relocation records, and commands.
-ghost use Prim.Native.Nat.{_<_};
+ghost use Prim.Native.Nat.{_^_, _<_};
 ghost use mathlib.Core.Path.{_≡_};
 ghost use mathlib.Core.List.{map};
 ghost use lib.ListN.{length};
@@ -9,12 +9,13 @@ ghost use Rattle.readers.specs.Links.{Did, is-big};
 ghost use Rattle.endian_slice.specs.Means.{slice-means};
 ghost use Rattle.calls.specs.Links.{call-is};
 ghost use Rattle.driver.specs.declared.input.Stop.the-variants.{Malformed, NoMemory};
-ghost use Rattle.driver.specs.Input.{Read, Asks, kind-step, order-step, record-step, records-step, command-for, call-step};
+ghost use Rattle.driver.specs.Input.{Read, Asks, kind-step, order-step, record-step, records-step, section-step, heading-is, heading-step, command-for, call-step};
 use calls::Call;
 use endian_slice::EndianSlice;
 use endian_slice::EndianSliceReader;
 use numbers::read_u8;
 use numbers::read_u16;
+use numbers::read_u32;
 use numbers::read_u64;
 use readers::Error;
 use readers::Reader;
@@ -67,7 +68,7 @@ pub enum ReaderKind {
     RelocatedReader,
 }
 
-pub fn read_kind(input: &mut EndianSlice) -> Result<ReaderKind, Stop>
+fn read_kind(input: &mut EndianSlice) -> Result<ReaderKind, Stop>
     ensures { λ r. ⌜ Read (λ x. x) r (slice-means (now (input .exit))) (kind-step (slice-means (now (input .entry)))) ⌝ }
 {
     match read_u8(input)? {
@@ -79,7 +80,7 @@ pub fn read_kind(input: &mut EndianSlice) -> Result<ReaderKind, Stop>
     }
 }
 
-pub fn read_order(input: &mut EndianSlice) -> Result<RunTimeEndian, Stop>
+fn read_order(input: &mut EndianSlice) -> Result<RunTimeEndian, Stop>
     ensures { λ r. ⌜ Read is-big r (slice-means (now (input .exit))) (order-step (slice-means (now (input .entry)))) ⌝ }
 {
     match read_u8(input)? {
@@ -90,7 +91,7 @@ pub fn read_order(input: &mut EndianSlice) -> Result<RunTimeEndian, Stop>
 }
 
 /// The number of records, and the records.
-pub fn read_records(heap: Global, input: &mut EndianSlice) -> Result<Vec<Relocation>, Stop>
+fn read_records(heap: Global, input: &mut EndianSlice) -> Result<Vec<Relocation>, Stop>
     ensures { λ r. ⌜ Read vec-items r (slice-means (now (input .exit))) (records-step (slice-means (now (input .entry)))) ⌝ }
 {
     let count = read_u16(input)?;
@@ -117,6 +118,41 @@ fn read_record(input: &mut EndianSlice) -> Result<Relocation, Error>
     })
 }
 
+// The section's length, and its bytes.
+fn read_section<'a>(input: &mut EndianSlice<'a>) -> Result<&'a [u8], Error>
+    ensures read { λ r. ⌜ Did now r (slice-means (now (input .exit))) (section-step (slice-means (now (input .entry)))) ⌝ }
+    ensures short { λ r. ⌜ made r (λ s. length (now s) < 2 ^ 32) ⌝ }
+{
+    let length = read_u32(input)? as usize;
+    let section = input.split(length)?;
+    Ok(section.slice())
+}
+
+/// What an input says before its commands.
+#[derive(Drop)]
+pub struct Head<'a> {
+    pub kind: ReaderKind,
+    pub endian: RunTimeEndian,
+    pub records: Vec<Relocation>,
+    pub section: &'a [u8],
+}
+
+pub fn read_head<'a>(heap: Global, input: &mut EndianSlice<'a>) -> Result<Head<'a>, Stop>
+    ensures read { λ r. ⌜ Read heading-is r (slice-means (now (input .exit))) (heading-step (slice-means (now (input .entry)))) ⌝ }
+    ensures short { λ r. ⌜ made r (λ h. length (now (h .section)) < 2 ^ 32) ⌝ }
+{
+    let kind = read_kind(input)?;
+    let endian = read_order(input)?;
+    let records = read_records(heap, input)?;
+    let section = read_section(input)?;
+    Ok(Head {
+        kind,
+        endian,
+        records,
+        section,
+    })
+}
+
 /// What a command letter stands for.
 #[derive(Clone, Copy)]
 pub enum Command {
@@ -128,7 +164,7 @@ pub enum Command {
     Lookup,
 }
 
-pub fn command_of(letter: char) -> Option<Command>
+fn command_of(letter: char) -> Option<Command>
     ensures { λ r. ⌜ r ≡ command-for letter ⌝ }
 {
     match letter {
