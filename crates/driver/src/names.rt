@@ -1,9 +1,18 @@
 // The name of a fault in an output line.
+ghost use mathlib.Core.Path.{_≡_};
+ghost use mathlib.Core.List.{_++_};
+ghost use mathlib.Core.Bool.{cond};
+ghost use Rattle.std.specs.Of.String.{string-bytes};
+ghost use Rattle.std.specs.Results.{isOk};
+ghost use Rattle.readers.specs.Links.{fault-is};
+ghost use Rattle.driver.specs.Output.{name-of};
 use readers::Error;
 use std::alloc::AllocError;
 
 /// Adds a fault's name to a line.
-pub fn write_name(line: &mut String, error: Error) -> Result<(), AllocError> {
+pub fn write_name(line: &mut String, error: Error) -> Result<(), AllocError>
+    ensures { λ r. ⌜ string-bytes (now (line .exit)) ≡ cond (isOk r) (string-bytes (now (line .entry)) ++ name-of (fault-is error .number)) (string-bytes (now (line .entry))) ⌝ }
+{
     line.push_str(
         match error {
             Error::UnexpectedEof(_) => "UnexpectedEof",

@@ -1,4 +1,13 @@
 // rangewalk's output: one line for each answer.
+ghost use mathlib.Core.Path.{_≡_};
+ghost use Rattle.std.specs.Of.String.{string-bytes};
+ghost use Rattle.std.specs.Vec.{made};
+ghost use Rattle.readers.specs.Links.{fault-is, outcome-is, option-is};
+ghost use Rattle.aranges.specs.Tuples.{raw, converted};
+ghost use Rattle.aranges.specs.Links.{header-is, told-is};
+ghost use Rattle.walk.specs.Links.{looked-is};
+ghost use Rattle.calls.specs.Links.{event-is};
+ghost use Rattle.driver.specs.Output.{fault-line, none-line, header-line, entries-line, told-line, looked-line, line-of};
 use crate::names::write_name;
 use aranges::ArangeEntry;
 use aranges::ArangeHeader;
@@ -12,7 +21,9 @@ use std::alloc::Global;
 use walk::Lookup;
 
 /// The line of an answer.
-pub fn line<R: AddressReader>(heap: Global, answer: &Answer<R>) -> Result<String, AllocError> {
+pub fn line<R: AddressReader>(heap: Global, answer: &Answer<R>) -> Result<String, AllocError>
+    ensures { λ r. ⌜ made r (λ s. string-bytes s ≡ line-of (event-is (R·Reader .means) (Offset·ReaderOffset .number) (now (answer .entry)))) ⌝ }
+{
     match answer {
         Answer::Header(result) => header_line(heap, result),
         Answer::Entries(result) => entries_line(heap, result),
@@ -25,7 +36,9 @@ pub fn line<R: AddressReader>(heap: Global, answer: &Answer<R>) -> Result<String
 fn header_line<R: AddressReader>(
     heap: Global,
     result: &Result<Option<ArangeHeader<R>>, Error>,
-) -> Result<String, AllocError> {
+) -> Result<String, AllocError>
+    ensures { λ r. ⌜ made r (λ s. string-bytes s ≡ header-line (outcome-is (option-is (header-is (R·Reader .means) (Offset·ReaderOffset .number))) (now (result .entry)))) ⌝ }
+{
     match result {
         Ok(Some(header)) => {
             let place = header.offset().0;
@@ -44,7 +57,9 @@ fn header_line<R: AddressReader>(
     }
 }
 
-fn entries_line(heap: Global, result: &Result<(), Error>) -> Result<String, AllocError> {
+fn entries_line(heap: Global, result: &Result<(), Error>) -> Result<String, AllocError>
+    ensures { λ r. ⌜ made r (λ s. string-bytes s ≡ entries-line (outcome-is (λ x. x) (now (result .entry)))) ⌝ }
+{
     match result {
         Ok(()) => String::from_str(heap, "E\n"),
         Err(error) => fault_line(heap, *error),
@@ -54,7 +69,9 @@ fn entries_line(heap: Global, result: &Result<(), Error>) -> Result<String, Allo
 fn next_line(
     heap: Global,
     result: &Result<Option<ArangeEntry>, Error>,
-) -> Result<String, AllocError> {
+) -> Result<String, AllocError>
+    ensures { λ r. ⌜ made r (λ s. string-bytes s ≡ told-line converted (told-is (now (result .entry)))) ⌝ }
+{
     match result {
         Ok(Some(entry)) => {
             let begin = entry.range().begin;
@@ -70,7 +87,9 @@ fn next_line(
 fn next_raw_line(
     heap: Global,
     result: &Result<Option<ArangeEntry>, Error>,
-) -> Result<String, AllocError> {
+) -> Result<String, AllocError>
+    ensures { λ r. ⌜ made r (λ s. string-bytes s ≡ told-line raw (told-is (now (result .entry)))) ⌝ }
+{
     match result {
         Ok(Some(entry)) => {
             let begin = entry.address();
@@ -85,7 +104,9 @@ fn next_raw_line(
 fn lookup_line<O: ReaderOffset>(
     heap: Global,
     result: &Result<Lookup<O>, Error>,
-) -> Result<String, AllocError> {
+) -> Result<String, AllocError>
+    ensures { λ r. ⌜ made r (λ s. string-bytes s ≡ looked-line (looked-is (O·ReaderOffset .number) (now (result .entry)))) ⌝ }
+{
     match result {
         Ok(lookup) => {
             let passed = lookup.passed;
@@ -104,11 +125,15 @@ fn lookup_line<O: ReaderOffset>(
     }
 }
 
-fn none_line(heap: Global) -> Result<String, AllocError> {
+fn none_line(heap: Global) -> Result<String, AllocError>
+    ensures { λ r. ⌜ made r (λ s. string-bytes s ≡ none-line) ⌝ }
+{
     String::from_str(heap, "-\n")
 }
 
-fn fault_line(heap: Global, error: Error) -> Result<String, AllocError> {
+fn fault_line(heap: Global, error: Error) -> Result<String, AllocError>
+    ensures { λ r. ⌜ made r (λ s. string-bytes s ≡ fault-line (fault-is error)) ⌝ }
+{
     let mut line = String::from_str(heap, "! ")?;
     write_name(&mut line, error)?;
     let payload = payload(error);
@@ -117,7 +142,9 @@ fn fault_line(heap: Global, error: Error) -> Result<String, AllocError> {
     Ok(line)
 }
 
-fn payload(error: Error) -> u64 {
+fn payload(error: Error) -> u64
+    ensures { λ r. ⌜ r ≡ fault-is error .payload ⌝ }
+{
     match error {
         Error::UnexpectedEof(id) => id.0,
         Error::UnknownReservedLength(value) => value as u64,
