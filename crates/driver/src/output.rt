@@ -136,24 +136,8 @@ fn fault_line(heap: Global, error: Error) -> Result<String, AllocError>
 {
     let mut line = String::from_str(heap, "! ")?;
     write_name(&mut line, error)?;
-    let payload = payload(error);
+    let payload = error.payload();
     let end = format!(heap, " {payload}\n")?;
     line.push_str(end.as_str())?;
     Ok(line)
-}
-
-fn payload(error: Error) -> u64
-    ensures { λ r. ⌜ r ≡ fault-is error .payload ⌝ }
-{
-    match error {
-        Error::UnexpectedEof(id) => id.0,
-        Error::UnknownReservedLength(value) => value as u64,
-        Error::UnknownVersion(version) => version as u64,
-        Error::UnsupportedAddressSize(size) => size as u64,
-        Error::UnsupportedSegmentSize(size) => size as u64,
-        Error::UnsupportedOffsetSize(size) => size as u64,
-        Error::RelocationRefused(offset) => offset,
-        Error::BadLength(len) => len as u64,
-        _ => 0,
-    }
 }

@@ -2,9 +2,9 @@
 ghost use Prim.Native.Nat.{ℕ, _-_};
 ghost use mathlib.Core.Path.{_≡_};
 ghost use Rattle.readers.specs.Outcome.{Outcome};
-ghost use Rattle.readers.specs.Reading.{Meaning};
+ghost use Rattle.readers.specs.Reading.{Meaning, fitting};
 ghost use Rattle.readers.specs.Links.{outcome-is};
-ghost use Rattle.relocate.specs.Relocating.{layered};
+ghost use Rattle.relocate.specs.Relocating.{layered, and-then};
 use readers::AddressReader;
 use readers::Error;
 use readers::Format;
@@ -61,7 +61,16 @@ impl<R: Reader, T: Relocate> RelocateReader<R, T> {
     fn offset(&self) -> u64
         ensures { λ r. ⌜ r ≡ R·Reader .means (now (self .entry) .reader) .id - now (self .entry) .start ⌝ }
     {
-        self.reader.offset_id().0.saturating_sub(self.start)
+        let id = self.reader.offset_id().0;
+        id.saturating_sub(self.start)
+    }
+
+    // what the policy makes of an offset that was read there, if it fits again
+    fn relocate_offset(&self, offset: u64, value: R::Offset) -> Result<R::Offset, Error>
+        ensures { λ r. ⌜ outcome-is (Offset·ReaderOffset .number) r ≡ and-then (T·Relocate .offsets (now (self .entry) .relocate) offset (Offset·ReaderOffset .number value)) (fitting (Offset·ReaderOffset .limit)) ⌝ }
+    {
+        let moved = self.relocate.relocate_offset(offset, value.into_u64())?;
+        R::Offset::from_u64(moved)
     }
 }
 
@@ -141,14 +150,12 @@ pub impl<R: AddressReader, T: Relocate> AddressReader for RelocateReader<
     fn read_offset(&mut self, format: Format) -> Result<R::Offset, Error> {
         let offset = self.offset();
         let value = self.reader.read_offset(format)?;
-        let moved = self.relocate.relocate_offset(offset, value.into_u64())?;
-        R::Offset::from_u64(moved)
+        self.relocate_offset(offset, value)
     }
 
     fn read_sized_offset(&mut self, size: u8) -> Result<R::Offset, Error> {
         let offset = self.offset();
         let value = self.reader.read_sized_offset(size)?;
-        let moved = self.relocate.relocate_offset(offset, value.into_u64())?;
-        R::Offset::from_u64(moved)
+        self.relocate_offset(offset, value)
     }
 }
