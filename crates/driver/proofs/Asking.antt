@@ -1,10 +1,8 @@
 -- Laws of what an input asks for: records one by one, and commands one by one.
-use Prim.Native.Nat.{ℕ, zero, suc, _+_, _-_, _<_, _≤_}
-use native.Mathlib.Omega.{arith}
+use Prim.Native.Nat.{ℕ, suc, _<_, _≤_}
 use mathlib.Core.Path.{_≡_, refl, sym, ap, _∙_, subst}
 use mathlib.Core.List.{List, [], _∷_, _++_, map, append-assoc, append-nil, map-append}
 use mathlib.Core.Bool.{Bool, true, false, cond}
-use lib.Dec.{leb}
 use lib.ListN.{length}
 use Rattle.std.specs.Results.{ErrBy}
 use Rattle.std.proofs.shelf.Results.{err-from-errBy}
@@ -21,14 +19,13 @@ use Rattle.readers.proofs.Steps.{ends, then-did, then-refused, then-answered, t
 use Rattle.relocate.specs.declared.policy.Relocation.{Relocation}
 use Rattle.calls.specs.declared.calls.Call.{Call}
 use Rattle.calls.specs.declared.calls.Call.the-variants.{Lookup as AskLookup}
-use Rattle.calls.specs.Law.{lookup-call}
 use Rattle.calls.specs.Law as Law
 use Rattle.calls.specs.Links.{call-is}
 use Rattle.driver.specs.declared.input.Stop.{Stop}
 use Rattle.driver.specs.declared.input.Stop.the-variants.{Malformed, NoMemory}
 use Rattle.driver.specs.declared.input.Command.{Command}
 use Rattle.driver.specs.declared.input.Command.the-variants.{Lookup}
-use Rattle.driver.specs.Input.{Read, is-fault, malformed, record-step, joined, some-records, from-count, records-step, command-for, a-lookup, by-command, by-letter, call-step, Asks, end, bad, good}
+use Rattle.driver.specs.Input.{Read, is-fault, malformed, record-step, joined, some-records, from-count, records-step, command-for, a-lookup, by-command, by-letter, call-step, Asks, bad, good}
 
 -- a step that ends so was read
 pub gave : {A B : Type 0} (f : A → B) (x : A) (a : Meaning) (s : Step B) → s ≡ gives (f x) a → Read f (Ok x) a s

@@ -10,7 +10,7 @@ use Rattle.std.proofs.shelf.Results.{err-from-errBy}
 use Rattle.std.proofs.shelf.Tests.{false≢true}
 use Rattle.std.specs.Results.{ErrBy}
 use Rattle.std.specs.declared.result.Result.{Result}
-use Rattle.std.specs.declared.result.Result.the-variants.{Ok, Err}
+use Rattle.std.specs.declared.result.Result.the-variants.{Err}
 use Rattle.readers.specs.Outcome.{Outcome, answer, fault}
 use Rattle.readers.specs.Reading.{Meaning, plain}
 use Rattle.readers.specs.Sections.{opened}
@@ -24,6 +24,10 @@ use Rattle.driver.specs.declared.input.ReaderKind.{ReaderKind}
 use Rattle.driver.specs.Output.{line-of, lines-of}
 use Rattle.driver.specs.Input.{Read, is-fault, Heading, heading-step, heading-is, Asks}
 use Rattle.driver.specs.Transcript.{limit-of, opened-as, opened-by, mark, Walked, Answered, By-heading, Transcript, Adds, Wrote}
+
+-- a text that was made, and then added
+pub adds-made : (more before text made line : List ℕ) → more ≡ before ++ text → text ≡ made → made ≡ line → more ≡ before ++ line
+adds-made more before text made line e f h = e ∙ ap (λ (bs : List ℕ). before ++ bs) (f ∙ h)
 
 -- one more line
 pub lines-more : {X : Type 0} (ev : X → Event) (all before more : List ℕ) (x : X) (xs : List X) (i : ℕ) → i < length xs → x ≡ getD xs i x

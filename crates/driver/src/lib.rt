@@ -4,13 +4,6 @@ mod names;
 mod output;
 mod run;
 
-pub use input::Command;
-pub use input::Commands;
-pub use input::ReaderKind;
-pub use input::Stop;
-pub use input::StopFromAllocError;
-pub use input::StopFromError;
-pub use input::StopFromRefused;
 pub use names::write_name;
 pub use output::line;
 pub use run::MAX_INPUT;

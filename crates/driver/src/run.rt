@@ -15,7 +15,6 @@ use crate::input::StopFromError;
 use crate::input::read_commands;
 use crate::input::read_head;
 use crate::output::line;
-use calls::Answer;
 use calls::Call;
 use calls::answer_calls;
 use endian_reader::EndianReader;

@@ -1,4 +1,3 @@
-use Prim.Native.Nat.{ℕ}
 use mathlib.Core.List.{List, _++_, map}
 use mathlib.Core.Bool.{Bool}
 use lib.ListN.{length}

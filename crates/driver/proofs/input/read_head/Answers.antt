@@ -58,7 +58,7 @@ returns-in-Break-section c =
           (read-on (kind-step m) from-reader (c .in-Continue-kind .ensures tt)
           ∙ read-on (order-step (slice-means (c .read-kind .last .input))) (from-order k) (c .in-Continue-endian .ensures tt)
           ∙ read-on (records-step (slice-means (c .read-order .last .input))) (from-records k b) (c .in-Continue-records .ensures tt)
-          ∙ then-refused (a-heading k b rs) (c .in-Break-section .ensures tt .read));
+          ∙ then-refused {after = slice-means (c .read-section .last .input)} {s = section-step (slice-means (c .read-records .last .input))} (a-heading k b rs) (c .in-Break-section .ensures tt .read));
       short = made-from-err (c .from-residual-in-Break-section .result) _ (c .from-residual-in-Break-section .ensures .0);
     }
 
@@ -74,6 +74,6 @@ returns c =
           (read-on (kind-step m) from-reader (c .in-Continue-kind .ensures tt)
           ∙ read-on (order-step (slice-means (c .read-kind .last .input))) (from-order k) (c .in-Continue-endian .ensures tt)
           ∙ read-on (records-step (slice-means (c .read-order .last .input))) (from-records k b) (c .in-Continue-records .ensures tt)
-          ∙ then-did (a-heading k b rs) (c .in-Continue-section .ensures tt .read));
+          ∙ then-did {after = slice-means (c .read-section .last .input)} {s = section-step (slice-means (c .read-records .last .input))} (a-heading k b rs) (c .in-Continue-section .ensures tt .read));
       short = c .in-Continue-section .ensures tt .short;
     }

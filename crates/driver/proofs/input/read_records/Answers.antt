@@ -1,8 +1,7 @@
 -- The records one by one: none yet, one more, a record that is cut short, no memory, and the last.
-use Prim.Native.Nat.{suc, _+_, _-_, _≤_}
+use Prim.Native.Nat.{suc, _+_, _-_}
 use mathlib.Core.Path.{_≡_, _∙_}
 use native.Mathlib.Omega.{arith}
-use borrow.Author.Needs.{needs}
 use Rattle.std.specs.Of.Vec.{vec-items}
 use Rattle.readers.specs.Links.{fault-is}
 use Rattle.endian_slice.specs.Means.{slice-means}

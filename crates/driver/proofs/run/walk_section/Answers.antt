@@ -1,7 +1,7 @@
 -- The lines are added one by one, and the history is that of the answers.
-use Prim.Native.Nat.{ℕ, _<_, _≤_}
+use Prim.Native.Nat.{_<_, _≤_}
 use mathlib.Core.Path.{_≡_, refl, ap, _∙_}
-use mathlib.Core.List.{List, _++_, map}
+use mathlib.Core.List.{_++_, map}
 use native.Mathlib.Omega.{arith}
 use lib.ListN.{length}
 use Rattle.std.specs.Of.Vec.{vec-items}
@@ -9,7 +9,7 @@ use Rattle.std.specs.Of.String.{string-bytes}
 use Rattle.std.proofs.shelf.Results.{made-from-err}
 use Rattle.calls.specs.Links.{event-is}
 use Rattle.driver.specs.Output.{line-of, lines-of}
-use Rattle.driver.proofs.Writing.{lines-more, lines-all}
+use Rattle.driver.proofs.Writing.{adds-made, lines-more, lines-all}
 use Rattle.driver.proofs.run.walk_section.Needs as need
 
 pub loop-answer-holds : need.loop-answer-holds
@@ -30,7 +30,8 @@ loop-answer-again g c =
     let was = string-bytes (c .loop-answer .out) in
     let h : i < length xs = omega arith in
     let e : string-bytes (c .push-str .last .self) ≡ was ++ line-of (ev x) =
-    c .in-Continue-push-str .ensures tt .bytes ∙ ap (λ (bs : List ℕ). was ++ bs) (c .as-str .ensures .value ∙ c .in-Continue-line .ensures tt)
+    adds-made (string-bytes (c .push-str .last .self)) was (c .as-str .result .now) (string-bytes (c .in-Continue-line .line)) (line-of (ev x))
+    (c .in-Continue-push-str .ensures tt .bytes) (c .as-str .ensures .value) (c .in-Continue-line .ensures tt)
     in
     lines-more ev (string-bytes (c .args .out .now) ++ lines-of (map ev xs)) was (string-bytes (c .push-str .last .self)) x xs i h (c .answer-item .is) e (c .loop-answer .inv)
 

@@ -1,6 +1,6 @@
 -- The section is opened as its kind says, and walked.
-use Prim.Native.Nat.{ℕ, _+_, _^_}
-use mathlib.Core.Path.{_≡_, _∙_}
+use Prim.Native.Nat.{_+_, _^_}
+use mathlib.Core.Path.{_∙_}
 use mathlib.Core.List.{map}
 use mathlib.Core.Bool.{_&&_}
 use lib.Dec.{leb, ltb}
@@ -44,7 +44,7 @@ returns-in-Continue-walk-section-3 c =
     let ts = c .new-table .result .records .now in
     let n = c .new-in-RelocatedSlice-2 .result in
     let over = layered (2 ^ 64) (by-table (n .relocate .records .now)) (by-table (n .relocate .records .now)) (n .start) (slice-means (n .reader)) in
-    walked-as (c .args .head .now .kind) RelocatedSlice b rs bs over (map call-is (c .args .calls .now)) (string-bytes (c .args .out .now)) (string-bytes (c .walk-section-in-RelocatedSlice .last .out)) (c .in-RelocatedSlice .is) 
+    walked-as (c .args .head .now .kind) RelocatedSlice b rs bs over (map call-is (c .args .calls .now)) (string-bytes (c .args .out .now)) (string-bytes (c .walk-section-in-RelocatedSlice .last .out)) (c .in-RelocatedSlice .is)
     (layers (2 ^ 64) over m ts rs bs b (c .new-in-RelocatedSlice-2 .ensures) (opens (leb (0 + length bs) highest) m 0 bs b (c .in-Continue-reader-3 .ensures tt .opens)) (c .new-table .ensures ∙ c .deref .ensures .value))
     (c .in-Continue-walk-section-3 .ensures tt)
 
@@ -57,6 +57,6 @@ returns-in-Continue-walk-section-4 c =
     let ts = c .new-table-in-RelocatedReader .result .records .now in
     let n = c .new-in-RelocatedReader-2 .result in
     let over = layered (2 ^ 32) (by-table (n .relocate .records .now)) (by-table (n .relocate .records .now)) (n .start) (reader-means (n .reader)) in
-    walked-as (c .args .head .now .kind) RelocatedReader b rs bs over (map call-is (c .args .calls .now)) (string-bytes (c .args .out .now)) (string-bytes (c .walk-section-in-RelocatedReader .last .out)) (c .in-RelocatedReader .is) 
+    walked-as (c .args .head .now .kind) RelocatedReader b rs bs over (map call-is (c .args .calls .now)) (string-bytes (c .args .out .now)) (string-bytes (c .walk-section-in-RelocatedReader .last .out)) (c .in-RelocatedReader .is)
     (layers (2 ^ 32) over m ts rs bs b (c .new-in-RelocatedReader-2 .ensures) (opens (leb (0 + length bs) highest && ltb (length bs) (2 ^ 32)) m 0 bs b (c .in-Continue-reader-4 .ensures tt)) (c .new-table-in-RelocatedReader .ensures ∙ c .deref-in-RelocatedReader .ensures .value))
     (c .in-Continue-walk-section-4 .ensures tt)

@@ -1,5 +1,5 @@
 -- A malformed heading; good commands; and a bad one.
-use Prim.Native.Nat.{ℕ, _+_}
+use Prim.Native.Nat.{_+_}
 use mathlib.Core.Path.{_≡_, ap}
 use mathlib.Core.List.{List, map}
 use mathlib.Core.Bool.{false}
