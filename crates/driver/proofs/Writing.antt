@@ -21,7 +21,7 @@ use Rattle.calls.specs.Law.{Call}
 use Rattle.driver.specs.declared.input.Stop.{Stop}
 use Rattle.driver.specs.declared.input.Stop.the-variants.{Malformed, NoMemory}
 use Rattle.driver.specs.declared.input.ReaderKind.{ReaderKind}
-use Rattle.driver.specs.Output.{line-of, lines-of}
+use Rattle.lines.specs.Output.{line-of, lines-of}
 use Rattle.driver.specs.Input.{Read, is-fault, Heading, heading-step, heading-is, Asks}
 use Rattle.driver.specs.Transcript.{limit-of, opened-as, opened-by, mark, Walked, Answered, By-heading, Transcript, Adds, Wrote}
 

@@ -1,3 +1,2 @@
-pub mod Output
 pub mod Input
 pub mod Transcript

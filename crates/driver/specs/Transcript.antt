@@ -18,7 +18,7 @@ use Rattle.driver.specs.declared.input.Stop.the-variants.{Malformed, NoMemory}
 use Rattle.driver.specs.declared.input.ReaderKind.{ReaderKind}
 use Rattle.driver.specs.declared.input.ReaderKind.the-variants.{EndianSlice, EndianReader, RelocatedSlice, RelocatedReader}
 use Rattle.driver.specs.Input.{Heading, heading-step, Asks}
-use Rattle.driver.specs.Output.{lines-of}
+use Rattle.lines.specs.Output.{lines-of}
 
 -- the first number that no offset of a reader kind stands for
 abbrev pub limit-of : ReaderKind → ℕ

@@ -14,7 +14,7 @@ use crate::input::StopFromAllocError;
 use crate::input::StopFromError;
 use crate::input::read_commands;
 use crate::input::read_head;
-use crate::output::line;
+use lines::line;
 use calls::Call;
 use calls::answer_calls;
 use endian_reader::EndianReader;

@@ -8,7 +8,7 @@ use Rattle.std.specs.Of.Vec.{vec-items}
 use Rattle.std.specs.Of.String.{string-bytes}
 use Rattle.std.proofs.shelf.Results.{made-from-err}
 use Rattle.calls.specs.Links.{event-is}
-use Rattle.driver.specs.Output.{line-of, lines-of}
+use Rattle.lines.specs.Output.{line-of, lines-of}
 use Rattle.driver.proofs.Writing.{adds-made, lines-more, lines-all}
 use Rattle.driver.proofs.run.walk_section.Needs as need
 

@@ -3,7 +3,7 @@ use mathlib.Core.List.{_++_, map}
 use lib.ListN.{drop}
 use Rattle.std.specs.Of.String.{string-bytes}
 use Rattle.calls.specs.Links.{event-is}
-use Rattle.driver.specs.Output.{lines-of}
+use Rattle.lines.specs.Output.{lines-of}
 use Rattle.driver.proofs.run.walk_section.Given as given
 
 -- what is written, and then the lines of the answers left, is what all of them make

@@ -5,7 +5,7 @@ ghost use mathlib.Core.Bool.{cond};
 ghost use Rattle.std.specs.Of.String.{string-bytes};
 ghost use Rattle.std.specs.Results.{isOk};
 ghost use Rattle.readers.specs.Links.{fault-is};
-ghost use Rattle.driver.specs.Output.{name-of};
+ghost use Rattle.lines.specs.Output.{name-of};
 use readers::Error;
 use std::alloc::AllocError;
 

@@ -7,7 +7,7 @@ ghost use Rattle.aranges.specs.Tuples.{raw, converted};
 ghost use Rattle.aranges.specs.Links.{header-is, told-is};
 ghost use Rattle.walk.specs.Links.{looked-is};
 ghost use Rattle.calls.specs.Links.{event-is};
-ghost use Rattle.driver.specs.Output.{fault-line, none-line, header-line, entries-line, told-line, looked-line, line-of};
+ghost use Rattle.lines.specs.Output.{fault-line, none-line, header-line, entries-line, told-line, looked-line, line-of};
 use crate::names::write_name;
 use aranges::ArangeEntry;
 use aranges::ArangeHeader;

@@ -5,9 +5,9 @@ use mathlib.Core.List.{List}
 use denote.Ref.{RefT}
 use Rattle.readers.specs.declared.error.Error.{Error}
 use Rattle.readers.specs.Links.{fault-is}
-use Rattle.driver.specs.Output.{name-of}
-use Rattle.driver.proofs.names.write_name.Needs as need
-use Rattle.driver.proofs.names.write_name.Needs.{in-UnexpectedEof, in-UnknownReservedLength, in-UnknownVersion, in-UnsupportedAddressSize, in-UnsupportedSegmentSize, in-UnsupportedOffset, in-UnsupportedOffsetSize, in-BadUnsignedLeb128, in-BadSignedLeb128, in-AddressOverflow, in-SectionTooLong, in-NothingOpen, in-RelocationRefused, in-BadLength}
+use Rattle.lines.specs.Output.{name-of}
+use Rattle.lines.proofs.names.write_name.Needs as need
+use Rattle.lines.proofs.names.write_name.Needs.{in-UnexpectedEof, in-UnknownReservedLength, in-UnknownVersion, in-UnsupportedAddressSize, in-UnsupportedSegmentSize, in-UnsupportedOffset, in-UnsupportedOffsetSize, in-BadUnsignedLeb128, in-BadSignedLeb128, in-AddressOverflow, in-SectionTooLong, in-NothingOpen, in-RelocationRefused, in-BadLength}
 
 is-name : {t u : RefT (List ℕ)} {x y : Error} → t ≡ u → x ≡ y → u .now ≡ name-of (fault-is y .number) → t .now ≡ name-of (fault-is x .number)
 is-name p q h = ap (λ (t : RefT (List ℕ)). t .now) p ∙ h ∙ sym (ap (λ (x : Error). name-of (fault-is x .number)) q)
