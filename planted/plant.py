@@ -8,7 +8,8 @@ more lines), then an empty line. With --edits the must-fail edits of the crates 
 tried with `rt dev`, which takes over what did not change, in a scratch copy of the repository under /tmp.
 
     refused   a fact that has to be proved fails: the line tells the first
-    unfit     the bug does not compile, or only a proof file no longer fits the code: it shows nothing
+    answer    an answer in a proof file no longer proves its fact: look whether the fact is false, or only its names changed
+    unfit     the bug does not compile, or only names of a proof file are missing: it shows nothing
     PROVED    the contract is too weak: it holds of the bug too
 """
 import glob
@@ -52,7 +53,7 @@ def verdict(output):
     names = [w for w in wrong if "that can be named" in w[1] or "has no field" in w[1] or "not in scope" in w[1]]
     if wrong and len(names) < len(wrong):
         first = next(w for w in wrong if w not in names)
-        return "refused", "%s: %s" % (first[0], first[1][:110])
+        return "answer", "%s: %s" % (first[0], first[1][:110])
     return "unfit", (wrong[0][1] if wrong else output[-200:])[:150]
 
 
@@ -80,7 +81,7 @@ def main(arguments):
         print("%-8s %s/%s: %s -> %s | %s" % (result, crate, file, old.strip()[:60], new.strip()[:60], note), flush=True)
     print(", ".join("%d %s" % (n, r) for r, n in sorted(counts.items())))
     shutil.rmtree(scratch)
-    return 0 if set(counts) <= {"refused"} else 1
+    return 1 if "PROVED" in counts else 0
 
 
 if __name__ == "__main__":

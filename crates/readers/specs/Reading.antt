@@ -72,7 +72,7 @@ split-off n m = taking n m (gives (front n m) (past n m))
 abbrev pub copied : ℕ → Meaning → Step (List ℕ)
 copied n m = taking n m (gives (take n (m .rest)) (past n m))
 
--- how many bytes stand before the first that equals b
+-- the number of bytes in front of the first b, if there is one
 abbrev pub one-more : Option ℕ → Option ℕ
 one-more (Some n) = Some (n + 1)
 one-more None = None

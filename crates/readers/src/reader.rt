@@ -9,7 +9,7 @@ use crate::common::Format;
 use crate::endianity::RunTimeEndian;
 use crate::error::Error;
 
-/// An identifier for an offset within a section: the section's base number plus the place, a count of bytes.
+/// Names a byte of a section: the section's base number and the byte's place, added.
 #[derive(Clone, Copy, PartialEq, Eq, Debug)]
 pub struct ReaderOffsetId(pub u64);
 
@@ -147,7 +147,7 @@ pub trait Reader: Sized + Drop {
     fn read_slice(&mut self, buf: &mut [u8]) -> Result<(), Error>
         ensures { λ r. ⌜ Filled r (now (buf .entry)) (now (buf .exit)) (means (now (self .exit))) (copied (length (now (buf .entry))) (means (now (self .entry)))) ⌝ };
 
-    /// How many bytes stand before the first that equals `byte`.
+    /// The number of bytes in front of the first `byte`.
     fn find(&self, byte: u8) -> Result<Self::Offset, Error>
         ensures { λ r. ⌜ outcome-is (Offset·ReaderOffset .number) r ≡ position byte (means (now (self .entry))) ⌝ };
 
@@ -160,7 +160,7 @@ pub trait Reader: Sized + Drop {
         ensures { λ r. ⌜ option-is (Offset·ReaderOffset .number) r ≡ distance-within (means (now (self .entry))) (means (now (base .entry))) ⌝ };
 }
 
-/// A reader that also reads the numbers that relocation may change.
+/// Reads of addresses and offsets, which relocation may change.
 pub trait AddressReader: Reader {
     /// An address of 1, 2, 4 or 8 bytes.
     fn read_address(&mut self, address_size: u8) -> Result<u64, Error>

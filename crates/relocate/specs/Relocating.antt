@@ -13,7 +13,7 @@ by-record r o v =
     cond (eqb (r .kind) 0) (answer ((v + r .amount) % 2 ^ 64))
     (cond (eqb (r .kind) 1) (answer (r .amount)) (fault-of 13 o))
 
--- the first record with the offset counts, and without one the value stands
+-- what a table makes of a value: the earliest record with its offset decides, and where there is none the value stays
 abbrev pub by-table : List Relocation → ℕ → ℕ → Outcome ℕ
 by-table [] o v = answer v
 by-table (r ∷ rs) o v = cond (eqb (r .offset) o) (by-record r o v) (by-table rs o v)

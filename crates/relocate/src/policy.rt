@@ -25,7 +25,7 @@ pub impl Relocate for NoRelocation as NoRelocationRelocate {
     }
 }
 
-/// One record of a table. Kind 0 adds the amount modulo 2^64, kind 1 replaces by it, and no other kind is defined.
+/// One record of a table: kind 0 adds the amount modulo 2^64, kind 1 puts it in the value's place, others are refused.
 #[derive(Clone, Copy)]
 pub struct Relocation {
     pub offset: u64,
@@ -33,7 +33,7 @@ pub struct Relocation {
     pub amount: u64,
 }
 
-/// The policy of a table, in which the first record with the offset counts.
+/// The policy of a table; of several records with one offset the earliest is used.
 #[derive(Clone, Copy)]
 pub struct RelocationTable<'a> {
     records: &'a [Relocation],
