@@ -4,5 +4,4 @@ ghost use Rattle.known.specs.Known.{Known};
 /// Carries the proof of the known values, all in one; there is nothing to run.
 pub fn known_values()
     ensures { λ _. ⌜ Known ⌝ }
-{
-}
+{}

@@ -3,7 +3,6 @@
 // `KIND ORDER HEX CALL` or `KIND ORDER HEX CALL:NUMBER` makes a call on a fresh reader (kind 0 EndianSlice, 1 EndianReader;
 // order 0 Little, 1 Big; `-` for no bytes); `wu NUMBER` and `ws NUMBER` write LEB128;
 // `reloc KIND ORDER HEX RECORDS RECORDS SKIP CALL:NUMBER` skips bytes under one table and calls under two.
-use lines::write_name;
 use endian_reader::EndianReader;
 use endian_reader::EndianReaderAddress;
 use endian_reader::EndianReaderReader;
@@ -18,17 +17,18 @@ use leb128::read_uleb128;
 use leb128::read_uleb128_u16;
 use leb128::read_uleb128_u32;
 use leb128::skip_leb128;
+use lines::write_name;
 use numbers::read_address_size;
+use numbers::read_i8;
 use numbers::read_i16;
 use numbers::read_i32;
 use numbers::read_i64;
-use numbers::read_i8;
 use numbers::read_initial_length;
 use numbers::read_length;
+use numbers::read_u8;
 use numbers::read_u16;
 use numbers::read_u32;
 use numbers::read_u64;
-use numbers::read_u8;
 use numbers::read_uint;
 use numbers::read_word;
 use readers::AddressReader;
@@ -45,9 +45,9 @@ use relocate::RelocationTable;
 use relocate::RelocationTableRelocate;
 use std::alloc::AllocError;
 use std::alloc::Global;
+use std::io;
 use std::io::BufRead;
 use std::io::BufReader;
-use std::io;
 
 // A reader call with its argument.
 #[derive(Clone, Copy)]
@@ -298,9 +298,12 @@ fn order_of(text: &str) -> RunTimeEndian {
 // A call on a fresh reader over the bytes.
 fn plain_line(heap: Global, text: &str) -> Result<String, AllocError> {
     let mut words = text.split(' ');
-    let (Some(kind), Some(order), Some(digits), Some(name)) =
-        (words.next(), words.next(), words.next(), words.next())
-    else {
+    let (Some(kind), Some(order), Some(digits), Some(name)) = (
+        words.next(),
+        words.next(),
+        words.next(),
+        words.next(),
+    ) else {
         return bad_line(heap);
     };
     let Some(call) = call_of(name) else {
