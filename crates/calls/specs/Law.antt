@@ -24,15 +24,16 @@ newer o (entries _) = o
 newer o (told _ _) = o
 newer o (looked _ _) = o
 
+-- the same after a list of events
 abbrev pub newest : Option Header → List Event → Option Header
 newest o [] = o
 newest o (e ∷ es) = newest (newer o e) es
 
--- the header that was answered last
+-- the header that was answered last in a history, if there was one
 abbrev pub latest : List Event → Option Header
 latest es = newest None es
 
--- whether entries was ever answered
+-- whether an event is an answered entries
 abbrev pub opens : Event → Bool
 opens (entries (answer _)) = true
 opens (entries (fault _)) = false
@@ -40,6 +41,7 @@ opens (header _) = false
 opens (told _ _) = false
 opens (looked _ _) = false
 
+-- whether entries was ever answered
 abbrev pub opened : List Event → Bool
 opened [] = false
 opened (e ∷ es) = cond (opens e) true (opened es)
@@ -68,7 +70,8 @@ headers (entries _ ∷ es) = headers es
 headers (told _ _ ∷ es) = headers es
 headers (looked _ _ ∷ es) = headers es
 
--- answers of next header in order: the sets of the run, then the fault of what is left, once, then none
+-- Answers of next header in order, where the headers hs of the longest run are still to come and the run ends at q: first
+-- these headers; then, exactly when bytes are left behind them, the fault of what stands there, once; then none.
 pub data Heads (limit : ℕ) (m : Meaning) : List Header → ℕ → List (Outcome (Option Header)) → Type 0 where
   stop : {hs : List Header} {q : ℕ} → Heads limit m hs q []
   head : {h : Header} {hs : List Header} {q : ℕ} {os : List (Outcome (Option Header))}
@@ -89,6 +92,7 @@ yields h (t ∷ ts) =
       | refused f ↦ (h, refused f) ∷ []
     ]
 
+-- the same of all sets, one after another
 abbrev pub all-of : List Header → List (Header × Says)
 all-of [] = []
 all-of (h ∷ hs) = yields h (tuples-of h) ++ all-of hs
@@ -98,16 +102,20 @@ abbrev pub passed : List (Header × Says) → ℕ
 passed [] = 0
 passed (x ∷ xs) = (elim (x .1) [ nothing ↦ 0 | entry _ ↦ 0 | overflow ↦ 1 | refused _ ↦ 1 ]) + passed xs
 
+-- a range holds the address: its begin is not above it, and its end is
 abbrev pub Holds : ℕ → Says → Type 0
 Holds a (entry e) = (e .begin ≤ a) × (a < e .end)
 Holds a nothing = ⊥
 Holds a overflow = ⊥
 Holds a (refused _) = ⊥
 
+-- none of these holds the address
 abbrev pub Nowhere : ℕ → List (Header × Says) → Type 0
 Nowhere a [] = Unit {0}
 Nowhere a (x ∷ xs) = (Holds a (x .1) → ⊥) × Nowhere a xs
 
+-- What a lookup of the address a answers over the longest run hs, which ends at q: the first range that holds it, with the
+-- number of faults before it; else the fault of what stands behind the run; else none, with the number of all faults.
 pub data Lookup (limit : ℕ) (m : Meaning) (hs : List Header) (q a : ℕ) : Looked → Type 0 where
   hit : (before : List (Header × Says)) (h : Header) (e : Entry) (after : List (Header × Says))
       → all-of hs ≡ before ++ ((h, entry e) ∷ after) → Nowhere a before → Holds a (entry e)
@@ -120,15 +128,21 @@ abbrev pub entered : Option Header → Outcome (Unit {0})
 entered (Some _) = answer tt
 entered None = fault-of 12 0
 
--- the law of one walk's history over a section that m has in full
+-- The law of one walk's history over a section that m has in full; hs is its longest run, which ends at q. Each field speaks
+-- of every place in the history: es ≡ before ++ (e ∷ after) says that e is an event of it, with what came before and after.
 pub record Lawful (limit : ℕ) (m : Meaning) (hs : List Header) (q : ℕ) (es : List Event) : Type 0 where
+  -- headers come in order
   pub in-order : Heads limit m hs q (headers es)
+  -- entries is refused before any header, and never after
   pub entries-answer : (before after : List Event) (o : Outcome (Unit {0})) → es ≡ before ++ (entries o ∷ after)
       → o ≡ entered (latest before)
+  -- next and next raw are refused until entries was answered
   pub unopened : (before after : List Event) (k : Kind) (a : Told) → es ≡ before ++ (told k a ∷ after)
       → opened before ≡ false → a ≡ failed (numbered 12 0)
+  -- from an answered entries to the next entries, they read the tuples of the header answered last before it
   pub on-a-set : (before during after : List Event) (h : Header) → es ≡ before ++ (entries (answer tt) ∷ (during ++ after))
       → latest before ≡ Some h → Unreset during → Reads (h .size) (tuples-of h) (asked during)
+  -- lookups answer by the whole section, wherever the walk stands
   pub lookups : (before after : List Event) (a : ℕ) (r : Looked) → es ≡ before ++ (looked a r ∷ after) → Lookup limit m hs q a r
 
 -- a call, without its answer
@@ -138,6 +152,7 @@ pub data Call : Type 0 where
   next-call : Kind → Call
   lookup-call : ℕ → Call
 
+-- the call of an event
 abbrev pub call : Event → Call
 call (header _) = next-header
 call (entries _) = entries-call
@@ -152,10 +167,12 @@ moved n c (header _) = c
 moved n c (told _ _) = c
 moved n c (looked _ _) = c
 
+-- the same after a list of events, from the newest header n and the set c
 abbrev pub set-after : Option Header → Option Header → List Event → Option Header
 set-after n c [] = c
 set-after n c (e ∷ es) = set-after (newer n e) (moved n c e) es
 
+-- the set that they are on after a history
 abbrev pub on-set : List Event → Option Header
 on-set es = set-after None None es
 
@@ -184,17 +201,19 @@ pub record Alike (g h : Header) : Type 0 where
   pub tuples : g .tuples ≡ at (h .tuples .id) (g .tuples .rest) (h .tuples)
   pub as-many : bytes-in g ≡ bytes-in h
 
+-- a lookup ends in a set before the place p
 abbrev pub Ends-before : ℕ → Looked → Type 0
 Ends-before p (range _ _ place _) = place < p
 Ends-before p (spoilt _) = ⊥
 Ends-before p (missing _) = ⊥
 
--- the set at place p
+-- a set, which stands at place p
 abbrev pub Stands-at : ℕ → Option Header → Type 0
 Stands-at p None = ⊥
 Stands-at p (Some h) = h .place ≡ p
 
--- answers to the same call, where the tuples of the set at place p were spoilt in one of two sections
+-- Answers to the same call, where the tuples of the set at place p were spoilt in one of two sections: they are the same, or
+-- that set's headers, or answers of next or next raw on that set, or lookups that end in no earlier set.
 pub data Agrees (p : ℕ) (before : List Event) : Event → Event → Type 0 where
   same : {e : Event} → Agrees p before e e
   its-header : {g h : Header} → h .place ≡ p → Alike g h → Agrees p before (header (answer (Some g))) (header (answer (Some h)))
@@ -208,7 +227,8 @@ pub record History (limit : ℕ) (m : Meaning) (es : List Event) : Type 0 where
   pub longest : Longest limit m sets stop
   pub lawful : Lawful limit m sets stop es
 
--- however one set's tuples are spoilt, the rest reads as before
+-- However the tuples of one set h of the longest run are spoilt, so that the section m becomes m2: any lawful history es2 of
+-- the same calls over m2 agrees with es, event for event.
 abbrev pub Apart : ℕ → Meaning → List Event → Type 0
 Apart limit m es =
     (m2 : Meaning) (es2 : List Event) (h : Header) (before-sets after-sets : List Header) (q : ℕ)

@@ -1,4 +1,4 @@
--- Runs of whole sets.
+-- Runs of whole sets, and the longest of them.
 use Prim.Native.Nat.{ℕ, _+_}
 use mathlib.Core.Path.{_≡_}
 use mathlib.Core.List.{List, [], _∷_, _++_}
@@ -11,6 +11,7 @@ pub data Run (limit : ℕ) (m : Meaning) : ℕ → List Header → ℕ → Type 
   none : {p : ℕ} → Run limit m p [] p
   set : {p q : ℕ} {h : Header} {hs : List Header} → header-at limit m p ≡ answer h → Run limit m (p + span h) hs q → Run limit m p (h ∷ hs) q
 
+-- the first list is a beginning of the second
 abbrev pub Begins : {A : Type 0} → List A → List A → Type 0
 Begins {A} xs ys = (zs : List A) × (ys ≡ xs ++ zs)
 

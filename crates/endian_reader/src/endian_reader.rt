@@ -19,7 +19,7 @@ use readers::ReaderOffsetId;
 use readers::RunTimeEndian;
 use readers::U32Offset;
 
-/// A part of the caller's section, with a byte order.
+/// A part of the caller's section that is read from the front, with a byte order and offsets of u32.
 #[derive(Clone, Copy)]
 pub struct EndianReader<'a> {
     section: &'a [u8],

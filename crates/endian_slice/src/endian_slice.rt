@@ -20,7 +20,7 @@ use readers::ReaderOffsetId;
 use readers::RunTimeEndian;
 use readers::UsizeOffset;
 
-/// A part of the caller's section, with a byte order.
+/// A part of the caller's section that is read from the front, with a byte order and offsets of usize.
 #[derive(Clone, Copy)]
 pub struct EndianSlice<'a> {
     section: &'a [u8],

@@ -21,6 +21,7 @@ pub fn skip_leb128<R: Reader>(reader: &mut R) -> Result<(), Error>
     }
 }
 
+/// An unsigned number of at most ten bytes.
 pub fn read_uleb128<R: Reader>(reader: &mut R) -> Result<u64, Error>
     ensures { λ r. ⌜ Did (λ x. x) r (R·Reader .means (now (reader .exit))) (unsigned (R·Reader .means (now (reader .entry)))) ⌝ }
 {
@@ -39,6 +40,7 @@ pub fn read_uleb128<R: Reader>(reader: &mut R) -> Result<u64, Error>
     Ok(result | (last as u64) << 63)
 }
 
+/// An unsigned number that 32 bits hold.
 pub fn read_uleb128_u32<R: Reader>(reader: &mut R) -> Result<u32, Error>
     ensures { λ r. ⌜ Did (λ x. x) r (R·Reader .means (now (reader .exit))) (unsigned-32 (R·Reader .means (now (reader .entry)))) ⌝ }
 {
@@ -49,6 +51,7 @@ pub fn read_uleb128_u32<R: Reader>(reader: &mut R) -> Result<u32, Error>
     Ok(value as u32)
 }
 
+/// An unsigned number of at most three bytes, which 16 bits hold.
 pub fn read_uleb128_u16<R: Reader>(reader: &mut R) -> Result<u16, Error>
     ensures { λ r. ⌜ Did (λ x. x) r (R·Reader .means (now (reader .exit))) (unsigned-16 (R·Reader .means (now (reader .entry)))) ⌝ }
 {
@@ -68,7 +71,7 @@ pub fn read_uleb128_u16<R: Reader>(reader: &mut R) -> Result<u16, Error>
     Ok(result | (third as u16) << 14)
 }
 
-// `value` less twice `half`, which may be more than an i64 holds.
+// `value` less twice `half`; twice `half` may be more than an i64 holds.
 fn less_twice(value: u64, half: u64) -> i64
     requires { ⌜ half < 2 ^ 63 ⌝ ∗ ⌜ half ≤ value ⌝ ∗ ⌜ value < 2 * half ⌝ }
     ensures { λ r. ⌜ r ≡ pos value -ℤ pos (2 * half) ⌝ }
@@ -76,6 +79,7 @@ fn less_twice(value: u64, half: u64) -> i64
     (value - half) as i64 - half as i64
 }
 
+/// A signed number of at most ten bytes.
 pub fn read_sleb128<R: Reader>(reader: &mut R) -> Result<i64, Error>
     ensures { λ r. ⌜ Did (λ x. x) r (R·Reader .means (now (reader .exit))) (signed (R·Reader .means (now (reader .entry)))) ⌝ }
 {

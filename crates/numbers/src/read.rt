@@ -20,6 +20,7 @@ pub fn is_empty<R: Reader>(reader: &R) -> bool
     reader.len().into_u64() == 0
 }
 
+/// An unsigned number of one byte.
 pub fn read_u8<R: Reader>(reader: &mut R) -> Result<u8, Error>
     ensures { λ r. ⌜ Did (λ x. x) r (R·Reader .means (now (reader .exit))) (fixed 1 (R·Reader .means (now (reader .entry)))) ⌝ }
 {
@@ -28,6 +29,7 @@ pub fn read_u8<R: Reader>(reader: &mut R) -> Result<u8, Error>
     Ok(bytes[0])
 }
 
+/// An unsigned number of two bytes.
 pub fn read_u16<R: Reader>(reader: &mut R) -> Result<u16, Error>
     ensures { λ r. ⌜ Did (λ x. x) r (R·Reader .means (now (reader .exit))) (fixed 2 (R·Reader .means (now (reader .entry)))) ⌝ }
 {
@@ -41,6 +43,7 @@ pub fn read_u16<R: Reader>(reader: &mut R) -> Result<u16, Error>
     )
 }
 
+/// An unsigned number of four bytes.
 pub fn read_u32<R: Reader>(reader: &mut R) -> Result<u32, Error>
     ensures { λ r. ⌜ Did (λ x. x) r (R·Reader .means (now (reader .exit))) (fixed 4 (R·Reader .means (now (reader .entry)))) ⌝ }
 {
@@ -54,6 +57,7 @@ pub fn read_u32<R: Reader>(reader: &mut R) -> Result<u32, Error>
     )
 }
 
+/// An unsigned number of eight bytes.
 pub fn read_u64<R: Reader>(reader: &mut R) -> Result<u64, Error>
     ensures { λ r. ⌜ Did (λ x. x) r (R·Reader .means (now (reader .exit))) (fixed 8 (R·Reader .means (now (reader .entry)))) ⌝ }
 {
@@ -67,24 +71,28 @@ pub fn read_u64<R: Reader>(reader: &mut R) -> Result<u64, Error>
     )
 }
 
+/// A signed number of one byte.
 pub fn read_i8<R: Reader>(reader: &mut R) -> Result<i8, Error>
     ensures { λ r. ⌜ Did (λ x. x) r (R·Reader .means (now (reader .exit))) (signed 1 (R·Reader .means (now (reader .entry)))) ⌝ }
 {
     Ok(read_u8(reader)?.cast_signed())
 }
 
+/// A signed number of two bytes.
 pub fn read_i16<R: Reader>(reader: &mut R) -> Result<i16, Error>
     ensures { λ r. ⌜ Did (λ x. x) r (R·Reader .means (now (reader .exit))) (signed 2 (R·Reader .means (now (reader .entry)))) ⌝ }
 {
     Ok(read_u16(reader)?.cast_signed())
 }
 
+/// A signed number of four bytes.
 pub fn read_i32<R: Reader>(reader: &mut R) -> Result<i32, Error>
     ensures { λ r. ⌜ Did (λ x. x) r (R·Reader .means (now (reader .exit))) (signed 4 (R·Reader .means (now (reader .entry)))) ⌝ }
 {
     Ok(read_u32(reader)?.cast_signed())
 }
 
+/// A signed number of eight bytes.
 pub fn read_i64<R: Reader>(reader: &mut R) -> Result<i64, Error>
     ensures { λ r. ⌜ Did (λ x. x) r (R·Reader .means (now (reader .exit))) (signed 8 (R·Reader .means (now (reader .entry)))) ⌝ }
 {
