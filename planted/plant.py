@@ -78,7 +78,8 @@ def main(arguments):
             result, note = verdict(run.stdout + run.stderr)
             open(path, "w").write(text)
         counts[result] = counts.get(result, 0) + 1
-        print("%-8s %s/%s: %s -> %s | %s" % (result, crate, file, old.strip()[:60], new.strip()[:60], note), flush=True)
+        shown = [" / ".join(part.strip() for part in text.split("\n"))[:90] for text in (old, new)]
+        print("%-8s %s/%s: %s -> %s | %s" % (result, crate, file, *shown, note), flush=True)
     print(", ".join("%d %s" % (n, r) for r, n in sorted(counts.items())))
     shutil.rmtree(scratch)
     return 1 if "PROVED" in counts else 0
