@@ -69,7 +69,7 @@ pub struct ArangeHeaderIter<R: AddressReader> {
 impl<R: AddressReader> ArangeHeaderIter<R> {
     /// The next header; a fault leaves no more.
     pub fn next(&mut self) -> Result<Option<ArangeHeader<R>>, Error>
-        ensures did { Did (option_is (header_is R.Reader.means Offset-as-ReaderOffset.number)) result (R.Reader.means self.new.input) (next_set Offset-as-ReaderOffset.limit self.old.start (R.Reader.means self.old.input)) }
+        ensures did { Did (option_is (header_is R.Reader.means R.Offset.ReaderOffset.number)) result (R.Reader.means self.new.input) (next_set R.Offset.ReaderOffset.limit self.old.start (R.Reader.means self.old.input)) }
         ensures start { self.new.start ≡ self.old.start }
     {
         if is_empty(&self.input) {
@@ -100,7 +100,7 @@ pub struct ArangeHeader<R: AddressReader> {
 impl<R: AddressReader> ArangeHeader<R> {
     // The header of the set at the front of `input`, which moves past the set.
     fn parse(input: &mut R, offset: DebugArangesOffset<u64>) -> Result<ArangeHeader<R>, Error>
-        ensures { Did (header_is R.Reader.means Offset-as-ReaderOffset.number) result (R.Reader.means input.new) (set_step Offset-as-ReaderOffset.limit offset.0 (R.Reader.means input.old)) }
+        ensures { Did (header_is R.Reader.means R.Offset.ReaderOffset.number) result (R.Reader.means input.new) (set_step R.Offset.ReaderOffset.limit offset.0 (R.Reader.means input.old)) }
     {
         let (length, format) = read_initial_length(input)?;
         let rest = input.split(length)?;

@@ -1,4 +1,5 @@
 // Address range sections: the headers of sets, and the tuples of a set.
+#![tactic(auto)]
 mod aranges;
 mod rnglists;
 

@@ -37,8 +37,8 @@ pub fn answer_calls<R: AddressReader>(
     section: R,
     calls: &[Call],
 ) -> Result<Vec<Answer<R>>, AllocError>
-    ensures asked { IfOk result (λ v. map call (map (event_is R.Reader.means Offset-as-ReaderOffset.number) v.items) ≡ map call_is calls.now) }
-    ensures owed { IfOk result (λ v. Owed Offset-as-ReaderOffset.limit (R.Reader.means section) (map (event_is R.Reader.means Offset-as-ReaderOffset.number) v.items)) }
+    ensures asked { IfOk result (λ v. map call (map (event_is R.Reader.means R.Offset.ReaderOffset.number) v.items) ≡ map call_is calls.now) }
+    ensures owed { IfOk result (λ v. Owed R.Offset.ReaderOffset.limit (R.Reader.means section) (map (event_is R.Reader.means R.Offset.ReaderOffset.number) v.items)) }
 {
     let mut walk = Walk::new(section);
     let mut answers = Vec::new(heap);
@@ -49,7 +49,7 @@ pub fn answer_calls<R: AddressReader>(
 }
 
 fn answer_call<R: AddressReader>(walk: &mut Walk<R>, call: Call) -> Answer<R>
-    ensures { Took (event_is R.Reader.means Offset-as-ReaderOffset.number result) (walk_is R.Reader.means Offset-as-ReaderOffset.number walk.new) (step Offset-as-ReaderOffset.limit (call_is call) (walk_is R.Reader.means Offset-as-ReaderOffset.number walk.old)) }
+    ensures { Took (event_is R.Reader.means R.Offset.ReaderOffset.number result) (walk_is R.Reader.means R.Offset.ReaderOffset.number walk.new) (step R.Offset.ReaderOffset.limit (call_is call) (walk_is R.Reader.means R.Offset.ReaderOffset.number walk.old)) }
 {
     match call {
         Call::NextHeader => Answer::Header(walk.next_header()),

@@ -76,7 +76,7 @@ fn walk_section<R: AddressReader>(
     calls: &[Call],
     out: &mut String,
 ) -> Result<(), AllocError>
-    ensures { OnOk result (Adds (string_bytes out.old) (string_bytes out.new) (Walked Offset-as-ReaderOffset.limit (R.Reader.means section) (map call_is calls.now))) }
+    ensures { OnOk result (Adds (string_bytes out.old) (string_bytes out.new) (Walked R.Offset.ReaderOffset.limit (R.Reader.means section) (map call_is calls.now))) }
 {
     let answers = answer_calls(heap, section, calls)?;
     for answer in answers.iter() {

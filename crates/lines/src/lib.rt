@@ -1,4 +1,5 @@
 // rangewalk's output: the names of faults, and a line for each answer of a walk.
+#![tactic(auto)]
 mod names;
 mod output;
 

@@ -16,7 +16,7 @@ use walk::Lookup;
 
 /// The line of an answer.
 pub fn line<R: AddressReader>(heap: Global, answer: &Answer<R>) -> Result<String, AllocError>
-    ensures { IfOk result (λ s. string_bytes s ≡ line_of (event_is R.Reader.means Offset-as-ReaderOffset.number answer.now)) }
+    ensures { IfOk result (λ s. string_bytes s ≡ line_of (event_is R.Reader.means R.Offset.ReaderOffset.number answer.now)) }
 {
     match answer {
         Answer::Header(result) => header_line(heap, result),
@@ -31,7 +31,7 @@ fn header_line<R: AddressReader>(
     heap: Global,
     res: &Result<Option<ArangeHeader<R>>, Error>,
 ) -> Result<String, AllocError>
-    ensures { IfOk result (λ s. string_bytes s ≡ header_line (outcome_is (option_is (header_is R.Reader.means Offset-as-ReaderOffset.number)) res.now)) }
+    ensures { IfOk result (λ s. string_bytes s ≡ header_line (outcome_is (option_is (header_is R.Reader.means R.Offset.ReaderOffset.number)) res.now)) }
 {
     match res {
         Ok(Some(header)) => {

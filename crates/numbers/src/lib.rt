@@ -1,4 +1,5 @@
 // Reads of numbers, written once for every reader, and addresses of a size.
+#![tactic(auto)]
 mod address;
 mod read;
 

@@ -1,4 +1,5 @@
 // What a reader of a section is: faults, byte order, formats, offsets, and the two reader traits.
+#![tactic(auto)]
 mod common;
 mod endianity;
 mod error;

@@ -34,7 +34,7 @@ pub struct RelocateReader<R: Reader, T: Relocate> {
 impl<R: Reader, T: Relocate> RelocateReader<R, T> {
     /// A layer over a reader, whose offsets count from where the reader is.
     pub fn new(reader: R, relocate: T) -> RelocateReader<R, T>
-        ensures { layered Offset-as-ReaderOffset.limit (T.Relocate.addresses result.relocate) (T.Relocate.offsets result.relocate) result.start (R.Reader.means result.reader) ≡ layered Offset-as-ReaderOffset.limit (T.Relocate.addresses relocate) (T.Relocate.offsets relocate) (R.Reader.means reader).id (R.Reader.means reader) }
+        ensures { layered R.Offset.ReaderOffset.limit (T.Relocate.addresses result.relocate) (T.Relocate.offsets result.relocate) result.start (R.Reader.means result.reader) ≡ layered R.Offset.ReaderOffset.limit (T.Relocate.addresses relocate) (T.Relocate.offsets relocate) (R.Reader.means reader).id (R.Reader.means reader) }
     {
         let start = reader.offset_id().0;
         RelocateReader {

@@ -68,7 +68,7 @@ fn lookup_in_set<R: AddressReader>(
     most: u64,
 ) -> Sought
     requires { passed + length (R.Reader.means header.now.entries).rest ≤ most }
-    ensures seeks { sought_is result ≡ seek_on address passed (entries_of (header_is R.Reader.means Offset-as-ReaderOffset.number header.now)) }
+    ensures seeks { sought_is result ≡ seek_on address passed (entries_of (header_is R.Reader.means R.Offset.ReaderOffset.number header.now)) }
     ensures bound { result.passed ≤ passed + length (R.Reader.means header.now.entries).rest }
 {
     let mut entries = header.entries();

@@ -25,7 +25,7 @@ pub struct Walk<R: AddressReader> {
 impl<R: AddressReader> Walk<R> {
     /// Opens a walk at the first set of a section.
     pub fn new(section: R) -> Walk<R>
-        ensures { walk_is R.Reader.means Offset-as-ReaderOffset.number result ≡ open_walk (R.Reader.means section) }
+        ensures { walk_is R.Reader.means R.Offset.ReaderOffset.number result ≡ open_walk (R.Reader.means section) }
     {
         let section = DebugAranges::new(section);
         let headers = section.headers();
@@ -39,7 +39,7 @@ impl<R: AddressReader> Walk<R> {
 
     /// The next header, which is the latest then. A fault leaves no more headers.
     pub fn next_header(&mut self) -> Result<Option<ArangeHeader<R>>, Error>
-        ensures { Took (headed (outcome_is (option_is (header_is R.Reader.means Offset-as-ReaderOffset.number)) result)) (walk_is R.Reader.means Offset-as-ReaderOffset.number self.new) (turn_header Offset-as-ReaderOffset.limit (walk_is R.Reader.means Offset-as-ReaderOffset.number self.old)) }
+        ensures { Took (headed (outcome_is (option_is (header_is R.Reader.means R.Offset.ReaderOffset.number)) result)) (walk_is R.Reader.means R.Offset.ReaderOffset.number self.new) (turn_header R.Offset.ReaderOffset.limit (walk_is R.Reader.means R.Offset.ReaderOffset.number self.old)) }
     {
         match self.headers.next()? {
             Some(header) => {
@@ -52,7 +52,7 @@ impl<R: AddressReader> Walk<R> {
 
     /// Goes to the first tuple of the latest header's set.
     pub fn entries(&mut self) -> Result<(), Error>
-        ensures { Took (entered (outcome_is (λ x. x) result)) (walk_is R.Reader.means Offset-as-ReaderOffset.number self.new) (turn_entries (walk_is R.Reader.means Offset-as-ReaderOffset.number self.old)) }
+        ensures { Took (entered (outcome_is (λ x. x) result)) (walk_is R.Reader.means R.Offset.ReaderOffset.number self.new) (turn_entries (walk_is R.Reader.means R.Offset.ReaderOffset.number self.old)) }
     {
         match &self.latest {
             Some(header) => {
@@ -65,7 +65,7 @@ impl<R: AddressReader> Walk<R> {
 
     /// The next range of the set that `entries` went to.
     pub fn next(&mut self) -> Result<Option<ArangeEntry>, Error>
-        ensures { Took (told converted (told_is result)) (walk_is R.Reader.means Offset-as-ReaderOffset.number self.new) (turn_next converted (walk_is R.Reader.means Offset-as-ReaderOffset.number self.old)) }
+        ensures { Took (told converted (told_is result)) (walk_is R.Reader.means R.Offset.ReaderOffset.number self.new) (turn_next converted (walk_is R.Reader.means R.Offset.ReaderOffset.number self.old)) }
     {
         match &mut self.tuples {
             Some(tuples) => tuples.next(),
@@ -75,7 +75,7 @@ impl<R: AddressReader> Walk<R> {
 
     /// The next tuple of that set as it stands.
     pub fn next_raw(&mut self) -> Result<Option<ArangeEntry>, Error>
-        ensures { Took (told raw (told_is result)) (walk_is R.Reader.means Offset-as-ReaderOffset.number self.new) (turn_next raw (walk_is R.Reader.means Offset-as-ReaderOffset.number self.old)) }
+        ensures { Took (told raw (told_is result)) (walk_is R.Reader.means R.Offset.ReaderOffset.number self.new) (turn_next raw (walk_is R.Reader.means R.Offset.ReaderOffset.number self.old)) }
     {
         match &mut self.tuples {
             Some(tuples) => tuples.next_raw(),

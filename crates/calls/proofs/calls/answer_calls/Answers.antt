@@ -8,28 +8,28 @@ use Rattle.calls.proofs.Replays.{replays_more, replays_all, asked}
 use Rattle.calls.proofs.Bridge.{owed}
 use Rattle.calls.proofs.calls.answer_calls.Goals as goal
 
-pub returns-in-err-push : goal.returns-in-err-push
-returns-in-err-push g c =
+pub returns-in_err-push : goal.returns-in_err-push
+returns-in_err-push g c =
     record {
-      asked = IfOk-from_err c.from-residual.result _ c.from-residual.ensures.0;
-      owed = IfOk-from_err c.from-residual.result _ c.from-residual.ensures.0;
+      asked = IfOk-from_err c.from_residual.result _ c.from_residual.ensures.0;
+      owed = IfOk-from_err c.from_residual.result _ c.from_residual.ensures.0;
     }
 
 pub loop-call-preserved : goal.loop-call-preserved
 loop-call-preserved g c =
-    let ev = event_is g.R.Reader.means g.Offset.ReaderOffset.number in
-    let wk = walk_is g.R.Reader.means g.Offset.ReaderOffset.number in
+    let ev = event_is g.R.Reader.means g.R.Offset.ReaderOffset.number in
+    let wk = walk_is g.R.Reader.means g.R.Offset.ReaderOffset.number in
     let h : c.loop-call.call-index < length c.args.calls.now = omega arith in
-    replays_more ev call_is g.Offset.ReaderOffset.limit (wk c.loop-call.walk) (wk c.answer-call.new.walk) (vec_items c.loop-call.answers) (vec_items c.push.new.self) c.answer-call.result
-    c.args.calls.now c.loop-call.call-index NextHeader (replay_from g.Offset.ReaderOffset.limit (wk c.new-walk.result) (map call_is c.args.calls.now)) h
-    c.in-ok-push.ensures.items c.answer-call.ensures c.loop-call.invariant
+    replays_more ev call_is g.R.Offset.ReaderOffset.limit (wk c.loop-call.walk) (wk c.answer_call.new.walk) (vec_items c.loop-call.answers) (vec_items c.push.new.self) c.answer_call.result
+    c.args.calls.now c.loop-call.call-index NextHeader (replay_from g.R.Offset.ReaderOffset.limit (wk c.new-walk.result) (map call_is c.args.calls.now)) h
+    c.in_ok-push.ensures.items c.answer_call.ensures c.loop-call.invariant
 
 pub returns : goal.returns
 returns g c =
-    let ev = event_is g.R.Reader.means g.Offset.ReaderOffset.number in
-    let wk = walk_is g.R.Reader.means g.Offset.ReaderOffset.number in
+    let ev = event_is g.R.Reader.means g.R.Offset.ReaderOffset.number in
+    let wk = walk_is g.R.Reader.means g.R.Offset.ReaderOffset.number in
     let h : length c.args.calls.now ≤ c.loop-call.call-index = omega arith in
-    let t = g.Offset.ReaderOffset.limit in
+    let t = g.R.Offset.ReaderOffset.limit in
     let m = g.R.Reader.means c.args.section in
     let es = map ev (vec_items c.loop-call.answers) in
     let e : es ≡ replay t m (map call_is c.args.calls.now) =

@@ -7,6 +7,6 @@ use Rattle.calls.proofs.calls.answer_calls.Given as goal
 -- the answers so far, and those of the calls left, are those of all calls
 abbrev pub invariant-loop-call : goal.invariant-loop-call
 invariant-loop-call g l =
-    map (event_is g.R.Reader.means g.Offset.ReaderOffset.number) (vec_items l.answers)
-    ++ replay_from g.Offset.ReaderOffset.limit (walk_is g.R.Reader.means g.Offset.ReaderOffset.number l.walk) (map call_is (drop l.call-index l.calls))
-    ≡ replay_from g.Offset.ReaderOffset.limit (walk_is g.R.Reader.means g.Offset.ReaderOffset.number l.initial.walk) (map call_is l.calls)
+    map (event_is g.R.Reader.means g.R.Offset.ReaderOffset.number) (vec_items l.answers)
+    ++ replay_from g.R.Offset.ReaderOffset.limit (walk_is g.R.Reader.means g.R.Offset.ReaderOffset.number l.walk) (map call_is (drop l.call-index l.calls))
+    ≡ replay_from g.R.Offset.ReaderOffset.limit (walk_is g.R.Reader.means g.R.Offset.ReaderOffset.number l.initial.walk) (map call_is l.calls)

@@ -7,13 +7,13 @@ use Rattle.driver.proofs.input.read_commands.Goals as goal
 
 pub loop-input-preserved : goal.loop-input-preserved
 loop-input-preserved c =
-    asks_more (slice_means c.args.input) (slice_means c.loop-input.input) (slice_means c.read-call.new.input) (vec_items c.loop-input.calls) (vec_items c.push.new.self) c.in-Ok.call
-    c.in-ok-push.ensures.items c.in-Ok.ensures.read c.loop-input.invariant
+    asks_more (slice_means c.args.input) (slice_means c.loop-input.input) (slice_means c.read_call.new.input) (vec_items c.loop-input.calls) (vec_items c.push.new.self) c.in-Ok.call
+    c.in_ok-push.ensures.items c.in-Ok.ensures.read c.loop-input.invariant
 
 pub returns-in-Err : goal.returns-in-Err
 returns-in-Err c =
     let some : 0 < length (slice_means c.loop-input.input).rest = omega (arith, c.len.ensures) in
-    asks_bad (slice_means c.args.input) (slice_means c.loop-input.input) (slice_means c.read-call.new.input) (vec_items c.loop-input.calls) c.in-Err.field-0
+    asks_bad (slice_means c.args.input) (slice_means c.loop-input.input) (slice_means c.read_call.new.input) (vec_items c.loop-input.calls) c.in-Err.field-0
     c.in-Err.ensures.malformed c.in-Err.ensures.read some c.loop-input.invariant
 
 pub returns : goal.returns

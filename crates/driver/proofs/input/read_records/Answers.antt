@@ -8,44 +8,44 @@ use Rattle.driver.proofs.input.read_records.Goals as goal
 
 pub loop-init : goal.loop-init
 loop-init c =
-    let n = c.in-ok-count.count in
+    let n = c.in_ok-count.count in
     let all : n - 0 ≡ n = omega arith in
-    many_begin n (n - 0) (vec_items c.new-records.result) (slice_means c.read-u16.new.reader) all c.new-records.ensures.items
+    many_begin n (n - 0) (vec_items c.new-records.result) (slice_means c.read_u16.new.reader) all c.new-records.ensures.items
 
 pub loop-preserved : goal.loop-preserved
 loop-preserved c =
-    let n = c.in-ok-count.count in
+    let n = c.in_ok-count.count in
     let i = c.loop.counter in
     let less : n - i ≡ suc (n - (i + 1)) = omega arith in
-    many_more (some_records n (slice_means c.read-u16.new.reader)) (n - i) (n - (i + 1)) (vec_items c.loop.records) (vec_items c.push.new.self)
-    c.in-ok-read-record.field-0 (slice_means c.loop.input) (slice_means c.read-record.new.input) less
-    c.in-ok-push.ensures.items c.in-ok-read-record.ensures c.loop.invariant
+    many_more (some_records n (slice_means c.read_u16.new.reader)) (n - i) (n - (i + 1)) (vec_items c.loop.records) (vec_items c.push.new.self)
+    c.in_ok-read_record.field-0 (slice_means c.loop.input) (slice_means c.read_record.new.input) less
+    c.in_ok-push.ensures.items c.in_ok-read_record.ensures c.loop.invariant
 
-pub returns-in-err-read-record : goal.returns-in-err-read-record
-returns-in-err-read-record c =
-    let n = c.in-ok-count.count in
+pub returns-in_err-read_record : goal.returns-in_err-read_record
+returns-in_err-read_record c =
+    let n = c.in_ok-count.count in
     let i = c.loop.counter in
     let less : n - i ≡ suc (n - (i + 1)) = omega arith in
     let m = slice_means c.args.input.now in
-    let a = slice_means c.read-u16.new.reader in
-    faulted vec_items c.from-residual-in-err-read-record.result (slice_means c.read-record.new.input) (records_step m)
-    (fault_is c.in-err-read-record.field-0.0) c.from-residual-in-err-read-record.ensures.1
-    (counted n m a c.in-ok-count.ensures c.if-count-gt-MAX-RECORDS.false
-    ∙ many_refused (some_records n a) (n - i) (n - (i + 1)) (vec_items c.loop.records) c.in-err-read-record.field-0.0 (slice_means c.loop.input)
-    (slice_means c.read-record.new.input) less c.in-err-read-record.ensures c.loop.invariant)
+    let a = slice_means c.read_u16.new.reader in
+    faulted vec_items c.from_residual-in_err-read_record.result (slice_means c.read_record.new.input) (records_step m)
+    (fault_is c.in_err-read_record.field-0.0) c.from_residual-in_err-read_record.ensures.1
+    (counted n m a c.in_ok-count.ensures c.if-count-gt-MAX-RECORDS.false
+    ∙ many_refused (some_records n a) (n - i) (n - (i + 1)) (vec_items c.loop.records) c.in_err-read_record.field-0.0 (slice_means c.loop.input)
+    (slice_means c.read_record.new.input) less c.in_err-read_record.ensures c.loop.invariant)
 
-pub returns-in-err-push : goal.returns-in-err-push
-returns-in-err-push c =
-    unsaid vec_items c.from-residual-in-err-push.result (slice_means c.read-record.new.input) (records_step (slice_means c.args.input.now))
-    c.from-residual-in-err-push.ensures.1
+pub returns-in_err-push : goal.returns-in_err-push
+returns-in_err-push c =
+    unsaid vec_items c.from_residual-in_err-push.result (slice_means c.read_record.new.input) (records_step (slice_means c.args.input.now))
+    c.from_residual-in_err-push.ensures.1
 
 pub returns : goal.returns
 returns c =
-    let n = c.in-ok-count.count in
+    let n = c.in_ok-count.count in
     let i = c.loop.counter in
     let none : n - i ≡ 0 = omega arith in
     let m = slice_means c.args.input.now in
-    let a = slice_means c.read-u16.new.reader in
+    let a = slice_means c.read_u16.new.reader in
     gave vec_items c.loop.records (slice_means c.loop.input) (records_step m)
-    (counted n m a c.in-ok-count.ensures c.if-count-gt-MAX-RECORDS.false
+    (counted n m a c.in_ok-count.ensures c.if-count-gt-MAX-RECORDS.false
     ∙ many_end (some_records n a) (n - i) (vec_items c.loop.records) (slice_means c.loop.input) none c.loop.invariant)

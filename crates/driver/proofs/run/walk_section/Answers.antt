@@ -9,35 +9,35 @@ use Rattle.driver.proofs.run.walk_section.Goals as goal
 pub loop-answer-init : goal.loop-answer-init
 loop-answer-init g c = refl
 
-pub returns-in-err-line : goal.returns-in-err-line
-returns-in-err-line g c = IfOk-from_err c.from-residual-in-err-line.result _ c.from-residual-in-err-line.ensures.0
+pub returns-in_err-line : goal.returns-in_err-line
+returns-in_err-line g c = IfOk-from_err c.from_residual-in_err-line.result _ c.from_residual-in_err-line.ensures.0
 
-pub returns-in-err-push-str : goal.returns-in-err-push-str
-returns-in-err-push-str g c = IfOk-from_err c.from-residual-in-err-push-str.result _ c.from-residual-in-err-push-str.ensures.0
+pub returns-in_err-push_str : goal.returns-in_err-push_str
+returns-in_err-push_str g c = IfOk-from_err c.from_residual-in_err-push_str.result _ c.from_residual-in_err-push_str.ensures.0
 
 pub loop-answer-preserved : goal.loop-answer-preserved
 loop-answer-preserved g c =
-    let ev = event_is g.R.Reader.means g.Offset.ReaderOffset.number in
+    let ev = event_is g.R.Reader.means g.R.Offset.ReaderOffset.number in
     let xs = c.deref-answer-items.result.now in
     let i = c.loop-answer.answer-index in
     let x = c.answer-item.result in
     let was = string_bytes c.loop-answer.out in
     let h : i < length xs = omega arith in
-    let e : string_bytes c.push-str.new.self ≡ was ++ line_of (ev x) =
-    adds_made (string_bytes c.push-str.new.self) was c.as-str.result.now (string_bytes c.in-ok-line.line) (line_of (ev x))
-    c.in-ok-push-str.ensures.bytes c.as-str.ensures.value c.in-ok-line.ensures
+    let e : string_bytes c.push_str.new.self ≡ was ++ line_of (ev x) =
+    adds_made (string_bytes c.push_str.new.self) was c.as_str.result.now (string_bytes c.in_ok-line.line) (line_of (ev x))
+    c.in_ok-push_str.ensures.bytes c.as_str.ensures.value c.in_ok-line.ensures
     in
-    lines_more ev (string_bytes c.args.out.now ++ lines_of (map ev xs)) was (string_bytes c.push-str.new.self) x xs i h c.answer-item.is e c.loop-answer.invariant
+    lines_more ev (string_bytes c.args.out.now ++ lines_of (map ev xs)) was (string_bytes c.push_str.new.self) x xs i h c.answer-item.is e c.loop-answer.invariant
 
 pub returns : goal.returns
 returns g c =
-    let ev = event_is g.R.Reader.means g.Offset.ReaderOffset.number in
+    let ev = event_is g.R.Reader.means g.R.Offset.ReaderOffset.number in
     let xs = c.deref-answer-items.result.now in
     let before = string_bytes c.args.out.now in
-    let answers = c.in-ok-answers.answers in
+    let answers = c.in_ok-answers.answers in
     let h : length xs ≤ c.loop-answer.answer-index = omega arith in
     let e : string_bytes c.loop-answer.out ≡ before ++ lines_of (map ev (vec_items answers)) =
     lines_all ev (before ++ lines_of (map ev xs)) (string_bytes c.loop-answer.out) xs c.loop-answer.answer-index h c.loop-answer.invariant
     ∙ ap (λ ys. before ++ lines_of (map ev ys)) c.deref-answer-items.ensures.value
     in
-    (lines_of (map ev (vec_items answers)), e, record { events = map ev (vec_items answers); asked = c.in-ok-answers.ensures.asked; owed = c.in-ok-answers.ensures.owed; lines = refl })
+    (lines_of (map ev (vec_items answers)), e, record { events = map ev (vec_items answers); asked = c.in_ok-answers.ensures.asked; owed = c.in_ok-answers.ensures.owed; lines = refl })

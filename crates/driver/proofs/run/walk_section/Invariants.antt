@@ -6,5 +6,5 @@ use Rattle.driver.proofs.run.walk_section.Given as goal
 -- what is written, and then the lines of the answers left, is what all of them make
 abbrev pub invariant-loop-answer : goal.invariant-loop-answer
 invariant-loop-answer g l =
-    string_bytes l.out ++ lines_of (map (event_is g.R.Reader.means g.Offset.ReaderOffset.number) (drop l.answer-index l.answer-items))
-    ≡ string_bytes l.initial.out ++ lines_of (map (event_is g.R.Reader.means g.Offset.ReaderOffset.number) l.answer-items)
+    string_bytes l.out ++ lines_of (map (event_is g.R.Reader.means g.R.Offset.ReaderOffset.number) (drop l.answer-index l.answer-items))
+    ≡ string_bytes l.initial.out ++ lines_of (map (event_is g.R.Reader.means g.R.Offset.ReaderOffset.number) l.answer-items)

@@ -9,34 +9,34 @@ use Rattle.driver.specs.Input.{heading_is}
 use Rattle.driver.proofs.Writing.{opens, stopped, answered, completed, unfinished}
 use Rattle.driver.proofs.run.write_lines.Goals as goal
 
-pub returns-in-err-head : goal.returns-in-err-head
-returns-in-err-head c =
+pub returns-in_err-head : goal.returns-in_err-head
+returns-in_err-head c =
     let bs = c.args.input.now in
-    let m = slice_means c.in-ok-input.input in
-    let e : m ≡ plain 0 bs false = opens (leb (0 + length bs) highest) m 0 bs false c.in-ok-input.ensures.opens in
-    stopped c.from-residual-in-err-head.result c.in-err-head.field-0.0 bs (string_bytes c.args.out.now) m (slice_means c.read-head.new.input)
-    c.from-residual-in-err-head.ensures.1 e c.in-err-head.ensures.read
+    let m = slice_means c.in_ok-input.input in
+    let e : m ≡ plain 0 bs false = opens (leb (0 + length bs) highest) m 0 bs false c.in_ok-input.ensures.opens in
+    stopped c.from_residual-in_err-head.result c.in_err-head.field-0.0 bs (string_bytes c.args.out.now) m (slice_means c.read_head.new.input)
+    c.from_residual-in_err-head.ensures.1 e c.in_err-head.ensures.read
 
 pub returns-then-commands : goal.returns-then-commands
 returns-then-commands c =
     let bs = c.args.input.now in
-    let m = slice_means c.in-ok-input.input in
-    let e : m ≡ plain 0 bs false = opens (leb (0 + length bs) highest) m 0 bs false c.in-ok-input.ensures.opens in
+    let m = slice_means c.in_ok-input.input in
+    let e : m ≡ plain 0 bs false = opens (leb (0 + length bs) highest) m 0 bs false c.in_ok-input.ensures.opens in
     let before = string_bytes c.args.out.now in
-    let after = string_bytes c.write-answers.new.out in
-    let commands = c.in-ok-commands.commands in
+    let after = string_bytes c.write_answers.new.out in
+    let commands = c.in_ok-commands.commands in
     completed bs before after commands.complete c.if-commands.true
-    (answered bs before after m (slice_means c.read-head.new.input) (heading_is c.in-ok-head.head) (map call_is (vec_items commands.calls)) (map call_is c.deref.result.now) commands.complete e
-    c.in-ok-head.ensures.read c.in-ok-commands.ensures (ap (λ (ks : List Call). map call_is ks) c.deref.ensures.value) c.in-ok-write-answers.ensures)
+    (answered bs before after m (slice_means c.read_head.new.input) (heading_is c.in_ok-head.head) (map call_is (vec_items commands.calls)) (map call_is c.deref.result.now) commands.complete e
+    c.in_ok-head.ensures.read c.in_ok-commands.ensures (ap (λ (ks : List Call). map call_is ks) c.deref.ensures.value) c.in_ok-write_answers.ensures)
 
 pub returns : goal.returns
 returns c =
     let bs = c.args.input.now in
-    let m = slice_means c.in-ok-input.input in
-    let e : m ≡ plain 0 bs false = opens (leb (0 + length bs) highest) m 0 bs false c.in-ok-input.ensures.opens in
+    let m = slice_means c.in_ok-input.input in
+    let e : m ≡ plain 0 bs false = opens (leb (0 + length bs) highest) m 0 bs false c.in_ok-input.ensures.opens in
     let before = string_bytes c.args.out.now in
-    let after = string_bytes c.write-answers.new.out in
-    let commands = c.in-ok-commands.commands in
+    let after = string_bytes c.write_answers.new.out in
+    let commands = c.in_ok-commands.commands in
     unfinished bs before after commands.complete c.if-commands.false
-    (answered bs before after m (slice_means c.read-head.new.input) (heading_is c.in-ok-head.head) (map call_is (vec_items commands.calls)) (map call_is c.deref.result.now) commands.complete e
-    c.in-ok-head.ensures.read c.in-ok-commands.ensures (ap (λ (ks : List Call). map call_is ks) c.deref.ensures.value) c.in-ok-write-answers.ensures)
+    (answered bs before after m (slice_means c.read_head.new.input) (heading_is c.in_ok-head.head) (map call_is (vec_items commands.calls)) (map call_is c.deref.result.now) commands.complete e
+    c.in_ok-head.ensures.read c.in_ok-commands.ensures (ap (λ (ks : List Call). map call_is ks) c.deref.ensures.value) c.in_ok-write_answers.ensures)

@@ -12,25 +12,25 @@ use Rattle.leb128.proofs.read.read_sleb128.Goals as goal
 pub loop-i-init : goal.loop-i-init
 loop-i-init g c = (start (g.R.Reader.means c.args.reader.now), omega arith)
 
-pub returns-in-err-byte : goal.returns-in-err-byte
-returns-in-err-byte g c =
-    exits (λ x. x) c.from-residual.result c.in-err-byte.field-0.0 _ _ c.from-residual.ensures.1
-    (sym c.loop-i.invariant.0 ∙ fails c.loop-i.i c.loop-i.result _ _ _ (omega arith) c.in-err-byte.ensures)
+pub returns-in_err-byte : goal.returns-in_err-byte
+returns-in_err-byte g c =
+    exits (λ x. x) c.from_residual.result c.in_err-byte.field-0.0 _ _ c.from_residual.ensures.1
+    (sym c.loop-i.invariant.0 ∙ fails c.loop-i.i c.loop-i.result _ _ _ (omega arith) c.in_err-byte.ensures)
 
 pub loop-i-preserved : goal.loop-i-preserved
 loop-i-preserved g c =
     let k : 7 * c.loop-i.i + 7 ≤ 64 = omega arith in
     let h : c.loop-i.i < 9 = omega arith in (
-      ap (λ v. left more [] ends (c.loop-i.i + 1) v (g.R.Reader.means c.read-u8.new.reader)) (seven_more c.loop-i.result c.in-ok-byte.byte (7 * c.loop-i.i) 64 c.loop-i.invariant.1 k)
-          ∙ sym (goes_on c.loop-i.i c.loop-i.result _ _ c.in-ok-byte.byte h c.in-ok-byte.ensures c.if-byte-lt128.false)
+      ap (λ v. left more [] ends (c.loop-i.i + 1) v (g.R.Reader.means c.read_u8.new.reader)) (seven_more c.loop-i.result c.in_ok-byte.byte (7 * c.loop-i.i) 64 c.loop-i.invariant.1 k)
+          ∙ sym (goes_on c.loop-i.i c.loop-i.result _ _ c.in_ok-byte.byte h c.in_ok-byte.ensures c.if-byte-lt128.false)
           ∙ c.loop-i.invariant.0,
-      seven_fit c.loop-i.result c.in-ok-byte.byte c.loop-i.i c.loop-i.invariant.1 h,
+      seven_fit c.loop-i.result c.in_ok-byte.byte c.loop-i.i c.loop-i.invariant.1 h,
     )
 
-pub returns-in-err-last : goal.returns-in-err-last
-returns-in-err-last g c =
-    exits (λ x. x) c.from-residual-in-err-last.result c.in-err-last.field-0.0 _ _ c.from-residual-in-err-last.ensures.1
-    (sym c.loop-i.invariant.0 ∙ fails c.loop-i.i c.loop-i.result _ _ _ (omega arith) c.in-err-last.ensures)
+pub returns-in_err-last : goal.returns-in_err-last
+returns-in_err-last g c =
+    exits (λ x. x) c.from_residual-in_err-last.result c.in_err-last.field-0.0 _ _ c.from_residual-in_err-last.ensures.1
+    (sym c.loop-i.invariant.0 ∙ fails c.loop-i.i c.loop-i.result _ _ _ (omega arith) c.in_err-last.ensures)
 
 -- what the bits come to with one byte more
 module _ (r b i : ℕ) (fit : r < 2 ^ (7 * i)) (h : i < 9) where
@@ -55,27 +55,27 @@ module _ (r b i : ℕ) (fit : r < 2 ^ (7 * i)) (h : i < 9) where
       let large : 64 ≤ b % 128 = omega arith in
       omega (arith, with-byte-is, mul-le (2 ^ (7 * i)) 64 (2 ^ (7 * i)) (b % 128) (le_refl (2 ^ (7 * i))) large)
 
-pub overflow-cast-result-then-byte-lt64 : goal.overflow-cast-result-then-byte-lt64
-overflow-cast-result-then-byte-lt64 g c =
-    let h = with-byte-fits c.loop-i.result c.in-ok-byte.byte c.loop-i.i c.loop-i.invariant.1 (omega arith) in
+pub overflow_cast-result-then-byte-lt64 : goal.overflow_cast-result-then-byte-lt64
+overflow_cast-result-then-byte-lt64 g c =
+    let h = with-byte-fits c.loop-i.result c.in_ok-byte.byte c.loop-i.i c.loop-i.invariant.1 (omega arith) in
     search rules
 
 pub returns-then-byte-lt64 : goal.returns-then-byte-lt64
 returns-then-byte-lt64 g c =
     let r = c.loop-i.result in
-    let b = c.in-ok-byte.byte in
+    let b = c.in_ok-byte.byte in
     let i = c.loop-i.i in
     let n : c.loop-i.i < 9 = omega arith in
     gave (λ x. x) _ _ _
     (sym c.loop-i.invariant.0
-    ∙ ends_plain i r _ _ b n c.in-ok-byte.ensures c.if-byte-lt128.true c.if-byte-lt64.true
-    ∙ ap (λ v. gives v (g.R.Reader.means c.read-u8.new.reader))
+    ∙ ends_plain i r _ _ b n c.in_ok-byte.ensures c.if-byte-lt128.true c.if-byte-lt64.true
+    ∙ ap (λ v. gives v (g.R.Reader.means c.read_u8.new.reader))
     (ap pos (sym (with-byte-is r b i c.loop-i.invariant.1 n)) ∙ sym (to_z_pos w64 (with_byte r b i c.loop-i.invariant.1 n) (with-byte-fits r b i c.loop-i.invariant.1 n))))
 
-pub less-twice-requires : goal.less-twice-requires
-less-twice-requires g c =
+pub less_twice-requires : goal.less_twice-requires
+less_twice-requires g c =
     let r = c.loop-i.result in
-    let b = c.in-ok-byte.byte in
+    let b = c.in_ok-byte.byte in
     let i = c.loop-i.i in
     let n : c.loop-i.i < 9 = omega arith in
     let half = half_is i n in
@@ -86,17 +86,17 @@ less-twice-requires g c =
 pub returns-then-byte-lt128 : goal.returns-then-byte-lt128
 returns-then-byte-lt128 g c =
     let r = c.loop-i.result in
-    let b = c.in-ok-byte.byte in
+    let b = c.in_ok-byte.byte in
     let i = c.loop-i.i in
     let n : c.loop-i.i < 9 = omega arith in
-    let f : SFits w64 c.less-twice.result = search rules in
+    let f : SFits w64 c.less_twice.result = search rules in
     let half = half_is i n in
     let twice : 2 ^ (7 * c.loop-i.i) * 128 ≡ 2 * ((1 * 2 ^ (7 * c.loop-i.i + 6)) % 2 ^ 64) = omega arith in
     gave (λ x. x) _ _ _
     (sym c.loop-i.invariant.0
-    ∙ ends_signed i r _ _ b n c.in-ok-byte.ensures c.if-byte-lt128.true c.if-byte-lt64.false
-    ∙ ap (λ v. gives v (g.R.Reader.means c.read-u8.new.reader))
-    (ap₂ (λ x y. pos x -ℤ pos y) (sym (with-byte-is r b i c.loop-i.invariant.1 n)) twice ∙ sym c.less-twice.ensures ∙ sym (to_z-of_z w64 c.less-twice.result f)))
+    ∙ ends_signed i r _ _ b n c.in_ok-byte.ensures c.if-byte-lt128.true c.if-byte-lt64.false
+    ∙ ap (λ v. gives v (g.R.Reader.means c.read_u8.new.reader))
+    (ap₂ (λ x y. pos x -ℤ pos y) (sym (with-byte-is r b i c.loop-i.invariant.1 n)) twice ∙ sym c.less_twice.ensures ∙ sym (to_z-of_z w64 c.less_twice.result f)))
 
 lowest : (v : ℕ) → v < 2 ^ 63 → pos v -ℤ pos (2 ^ 63) ≡ to_z w64 (of_z w64 (negsuc 9223372036854775807 +ℤ to_z w64 v))
 lowest v h = omega (arith, ints)
@@ -110,8 +110,8 @@ returns-in-0 g c =
     let nine : c.loop-i.i ≡ 9 = omega arith in
     gave (λ x. x) _ _ _
     (sym c.loop-i.invariant.0
-    ∙ tenth_plain c.loop-i.i c.loop-i.result _ _ c.in-ok-last.last nine c.in-ok-last.ensures c.in-0.is
-    ∙ ap (λ v. gives v (g.R.Reader.means c.read-u8-2.new.reader)) (sym (to_z_pos w64 c.loop-i.result (nine-fit c.loop-i.i c.loop-i.result c.loop-i.invariant.1 nine))))
+    ∙ tenth_plain c.loop-i.i c.loop-i.result _ _ c.in_ok-last.last nine c.in_ok-last.ensures c.in-0.is
+    ∙ ap (λ v. gives v (g.R.Reader.means c.read_u8-2.new.reader)) (sym (to_z_pos w64 c.loop-i.result (nine-fit c.loop-i.i c.loop-i.result c.loop-i.invariant.1 nine))))
 
 pub returns-in-127 : goal.returns-in-127
 returns-in-127 g c =
@@ -119,12 +119,12 @@ returns-in-127 g c =
     let fit = nine-fit c.loop-i.i c.loop-i.result c.loop-i.invariant.1 nine in
     gave (λ x. x) _ _ _
     (sym c.loop-i.invariant.0
-    ∙ tenth_signed c.loop-i.i c.loop-i.result _ _ c.in-ok-last.last nine c.in-ok-last.ensures c.in-127.is
-    ∙ ap (λ v. gives v (g.R.Reader.means c.read-u8-2.new.reader)) (lowest c.loop-i.result fit))
+    ∙ tenth_signed c.loop-i.i c.loop-i.result _ _ c.in_ok-last.last nine c.in_ok-last.ensures c.in-127.is
+    ∙ ap (λ v. gives v (g.R.Reader.means c.read_u8-2.new.reader)) (lowest c.loop-i.result fit))
 
-pub returns-in-default : goal.returns-in-default
-returns-in-default g c =
+pub returns-in_default : goal.returns-in_default
+returns-in_default g c =
     let nine : c.loop-i.i ≡ 9 = omega arith in
     refused (λ x. x) _ _ _
     (sym c.loop-i.invariant.0
-    ∙ tenth_refuses c.loop-i.i c.loop-i.result _ _ c.in-ok-last.last nine c.in-ok-last.ensures (λ e. omega arith) (λ e. omega arith))
+    ∙ tenth_refuses c.loop-i.i c.loop-i.result _ _ c.in_ok-last.last nine c.in_ok-last.ensures (λ e. omega arith) (λ e. omega arith))

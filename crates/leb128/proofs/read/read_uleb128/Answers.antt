@@ -9,43 +9,43 @@ use Rattle.leb128.proofs.read.read_uleb128.Goals as goal
 pub loop-i-init : goal.loop-i-init
 loop-i-init g c = (start (g.R.Reader.means c.args.reader.now), omega arith)
 
-pub returns-in-err-byte : goal.returns-in-err-byte
-returns-in-err-byte g c =
-    exits (λ x. x) c.from-residual.result c.in-err-byte.field-0.0 _ _ c.from-residual.ensures.1
-    (sym c.loop-i.invariant.0 ∙ fails c.loop-i.i c.loop-i.result _ _ _ (omega arith) c.in-err-byte.ensures)
+pub returns-in_err-byte : goal.returns-in_err-byte
+returns-in_err-byte g c =
+    exits (λ x. x) c.from_residual.result c.in_err-byte.field-0.0 _ _ c.from_residual.ensures.1
+    (sym c.loop-i.invariant.0 ∙ fails c.loop-i.i c.loop-i.result _ _ _ (omega arith) c.in_err-byte.ensures)
 
 pub returns-then-byte-lt128 : goal.returns-then-byte-lt128
 returns-then-byte-lt128 g c =
     let k : 7 * c.loop-i.i + 7 ≤ 64 = omega arith in
     gave (λ x. x) _ _ _
     (sym c.loop-i.invariant.0
-    ∙ ends_here c.loop-i.i c.loop-i.result _ _ c.in-ok-byte.byte (omega arith) c.in-ok-byte.ensures c.if-byte-lt128.true
-    ∙ ap (λ v. gives v (g.R.Reader.means c.read-u8.new.reader)) (sym (seven_more c.loop-i.result c.in-ok-byte.byte (7 * c.loop-i.i) 64 c.loop-i.invariant.1 k)))
+    ∙ ends_here c.loop-i.i c.loop-i.result _ _ c.in_ok-byte.byte (omega arith) c.in_ok-byte.ensures c.if-byte-lt128.true
+    ∙ ap (λ v. gives v (g.R.Reader.means c.read_u8.new.reader)) (sym (seven_more c.loop-i.result c.in_ok-byte.byte (7 * c.loop-i.i) 64 c.loop-i.invariant.1 k)))
 
 pub loop-i-preserved : goal.loop-i-preserved
 loop-i-preserved g c =
     let k : 7 * c.loop-i.i + 7 ≤ 64 = omega arith in
     let h : c.loop-i.i < 9 = omega arith in (
-      ap (λ v. left more [] ends (c.loop-i.i + 1) v (g.R.Reader.means c.read-u8.new.reader)) (seven_more c.loop-i.result c.in-ok-byte.byte (7 * c.loop-i.i) 64 c.loop-i.invariant.1 k)
-          ∙ sym (goes_on c.loop-i.i c.loop-i.result _ _ c.in-ok-byte.byte h c.in-ok-byte.ensures c.if-byte-lt128.false)
+      ap (λ v. left more [] ends (c.loop-i.i + 1) v (g.R.Reader.means c.read_u8.new.reader)) (seven_more c.loop-i.result c.in_ok-byte.byte (7 * c.loop-i.i) 64 c.loop-i.invariant.1 k)
+          ∙ sym (goes_on c.loop-i.i c.loop-i.result _ _ c.in_ok-byte.byte h c.in_ok-byte.ensures c.if-byte-lt128.false)
           ∙ c.loop-i.invariant.0,
-      seven_fit c.loop-i.result c.in-ok-byte.byte c.loop-i.i c.loop-i.invariant.1 h,
+      seven_fit c.loop-i.result c.in_ok-byte.byte c.loop-i.i c.loop-i.invariant.1 h,
     )
 
-pub returns-in-err-last : goal.returns-in-err-last
-returns-in-err-last g c =
-    exits (λ x. x) c.from-residual-in-err-last.result c.in-err-last.field-0.0 _ _ c.from-residual-in-err-last.ensures.1
-    (sym c.loop-i.invariant.0 ∙ fails c.loop-i.i c.loop-i.result _ _ _ (omega arith) c.in-err-last.ensures)
+pub returns-in_err-last : goal.returns-in_err-last
+returns-in_err-last g c =
+    exits (λ x. x) c.from_residual-in_err-last.result c.in_err-last.field-0.0 _ _ c.from_residual-in_err-last.ensures.1
+    (sym c.loop-i.invariant.0 ∙ fails c.loop-i.i c.loop-i.result _ _ _ (omega arith) c.in_err-last.ensures)
 
 pub returns-then-last-gt1 : goal.returns-then-last-gt1
 returns-then-last-gt1 g c =
     let nine : c.loop-i.i ≡ 9 = omega arith in
     refused (λ x. x) _ _ _
-    (sym c.loop-i.invariant.0 ∙ tenth_refuses c.loop-i.i c.loop-i.result _ _ c.in-ok-last.last nine c.in-ok-last.ensures c.if-last-gt1.true)
+    (sym c.loop-i.invariant.0 ∙ tenth_refuses c.loop-i.i c.loop-i.result _ _ c.in_ok-last.last nine c.in_ok-last.ensures c.if-last-gt1.true)
 
 pub returns : goal.returns
 returns g c =
     let nine : c.loop-i.i ≡ 9 = omega arith in
     let e : 2 ^ (7 * c.loop-i.i) ≡ 2 ^ 63 = ap (λ n. 2 ^ (7 * n)) nine in
     gave (λ x. x) _ _ _
-    (sym c.loop-i.invariant.0 ∙ tenth_answers c.loop-i.i c.loop-i.result _ _ c.in-ok-last.last nine c.in-ok-last.ensures c.if-last-gt1.false (omega arith))
+    (sym c.loop-i.invariant.0 ∙ tenth_answers c.loop-i.i c.loop-i.result _ _ c.in_ok-last.last nine c.in_ok-last.ensures c.if-last-gt1.false (omega arith))

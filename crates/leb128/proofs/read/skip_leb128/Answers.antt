@@ -5,16 +5,16 @@ use Rattle.readers.proofs.Steps.{gave, exits}
 use Rattle.leb128.proofs.Spelling.{spelt_fault, spelt_last, not_more, passed_more}
 use Rattle.leb128.proofs.read.skip_leb128.Goals as goal
 
-pub returns-in-err-byte : goal.returns-in-err-byte
-returns-in-err-byte g c =
-    exits (λ x. x) c.from-residual.result c.in-err-byte.field-0.0 _ _ c.from-residual.ensures.1
-    (sym c.loop-byte.invariant ∙ spelt_fault more (up_to (length (g.R.Reader.means c.loop-byte.reader).rest)) (λ _ a. gives tt a) _ _ _ c.in-err-byte.ensures)
+pub returns-in_err-byte : goal.returns-in_err-byte
+returns-in_err-byte g c =
+    exits (λ x. x) c.from_residual.result c.in_err-byte.field-0.0 _ _ c.from_residual.ensures.1
+    (sym c.loop-byte.invariant ∙ spelt_fault more (up_to (length (g.R.Reader.means c.loop-byte.reader).rest)) (λ _ a. gives tt a) _ _ _ c.in_err-byte.ensures)
 
 pub returns-then-byte-lt128 : goal.returns-then-byte-lt128
 returns-then-byte-lt128 g c =
     gave (λ x. x) _ _ _
-    (sym c.loop-byte.invariant ∙ spelt_last more (up_to (length (g.R.Reader.means c.loop-byte.reader).rest)) (λ _ a. gives tt a) _ _ c.in-ok-byte.byte c.in-ok-byte.ensures (not_more c.in-ok-byte.byte c.if-byte-lt128.true))
+    (sym c.loop-byte.invariant ∙ spelt_last more (up_to (length (g.R.Reader.means c.loop-byte.reader).rest)) (λ _ a. gives tt a) _ _ c.in_ok-byte.byte c.in_ok-byte.ensures (not_more c.in_ok-byte.byte c.if-byte-lt128.true))
 
 pub loop-byte-preserved : goal.loop-byte-preserved
 loop-byte-preserved g c =
-    sym (passed_more _ _ c.in-ok-byte.byte c.in-ok-byte.ensures c.if-byte-lt128.false) ∙ c.loop-byte.invariant
+    sym (passed_more _ _ c.in_ok-byte.byte c.in_ok-byte.ensures c.if-byte-lt128.false) ∙ c.loop-byte.invariant

@@ -11,22 +11,22 @@ is_name p q h = ap (λ (t : Bor (List ℕ)). t.now) p ∙ h ∙ sym (ap (λ (x :
 
 pub returns : goal.returns
 returns c =
-    let e : c.match-error.push-str.now ≡ name_of (fault_is c.args.error).number =
+    let e : c.match-error.push_str.now ≡ name_of (fault_is c.args.error).number =
     elim c.match-error.branch [
-      | in-UnexpectedEof w ↦ is_name w.push-str-is w.in-UnexpectedEof.is refl
-      | in-UnknownReservedLength w ↦ is_name w.push-str-is w.in-UnknownReservedLength.is refl
-      | in-UnknownVersion w ↦ is_name w.push-str-is w.in-UnknownVersion.is refl
-      | in-UnsupportedAddressSize w ↦ is_name w.push-str-is w.in-UnsupportedAddressSize.is refl
-      | in-UnsupportedSegmentSize w ↦ is_name w.push-str-is w.in-UnsupportedSegmentSize.is refl
-      | in-UnsupportedOffset w ↦ is_name w.push-str-is w.in-UnsupportedOffset.is refl
-      | in-UnsupportedOffsetSize w ↦ is_name w.push-str-is w.in-UnsupportedOffsetSize.is refl
-      | in-BadUnsignedLeb128 w ↦ is_name w.push-str-is w.in-BadUnsignedLeb128.is refl
-      | in-BadSignedLeb128 w ↦ is_name w.push-str-is w.in-BadSignedLeb128.is refl
-      | in-AddressOverflow w ↦ is_name w.push-str-is w.in-AddressOverflow.is refl
-      | in-SectionTooLong w ↦ is_name w.push-str-is w.in-SectionTooLong.is refl
-      | in-NothingOpen w ↦ is_name w.push-str-is w.in-NothingOpen.is refl
-      | in-RelocationRefused w ↦ is_name w.push-str-is w.in-RelocationRefused.is refl
-      | in-BadLength w ↦ is_name w.push-str-is w.in-BadLength.is refl
+      | in-UnexpectedEof w ↦ is_name w.push_str-is w.in-UnexpectedEof.is refl
+      | in-UnknownReservedLength w ↦ is_name w.push_str-is w.in-UnknownReservedLength.is refl
+      | in-UnknownVersion w ↦ is_name w.push_str-is w.in-UnknownVersion.is refl
+      | in-UnsupportedAddressSize w ↦ is_name w.push_str-is w.in-UnsupportedAddressSize.is refl
+      | in-UnsupportedSegmentSize w ↦ is_name w.push_str-is w.in-UnsupportedSegmentSize.is refl
+      | in-UnsupportedOffset w ↦ is_name w.push_str-is w.in-UnsupportedOffset.is refl
+      | in-UnsupportedOffsetSize w ↦ is_name w.push_str-is w.in-UnsupportedOffsetSize.is refl
+      | in-BadUnsignedLeb128 w ↦ is_name w.push_str-is w.in-BadUnsignedLeb128.is refl
+      | in-BadSignedLeb128 w ↦ is_name w.push_str-is w.in-BadSignedLeb128.is refl
+      | in-AddressOverflow w ↦ is_name w.push_str-is w.in-AddressOverflow.is refl
+      | in-SectionTooLong w ↦ is_name w.push_str-is w.in-SectionTooLong.is refl
+      | in-NothingOpen w ↦ is_name w.push_str-is w.in-NothingOpen.is refl
+      | in-RelocationRefused w ↦ is_name w.push_str-is w.in-RelocationRefused.is refl
+      | in-BadLength w ↦ is_name w.push_str-is w.in-BadLength.is refl
     ]
     in
-    rw e at c.push-str.ensures.bytes
+    rw e at c.push_str.ensures.bytes

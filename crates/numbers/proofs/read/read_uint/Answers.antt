@@ -6,14 +6,14 @@ use Rattle.numbers.proofs.read.read_uint.Goals.{then-eq, else-eq}
 
 pub returns : goal.returns
 returns g c =
-    let a = c.in-ok-read-slice.ensures in
+    let a = c.in_ok-read_slice.ensures in
     let m : Meaning = g.R.Reader.means c.args.reader.now in
-    let after : Meaning = g.R.Reader.means c.read-slice.new.self in
-    let held = c.read-slice.new.buf in
+    let after : Meaning = g.R.Reader.means c.read_slice.new.self in
+    let held = c.read_slice.new.buf in
     let d : Copied c.args.n m after held =
     copied_is c.args.n (length (take (c.args.n - 0) zeros)) m after held (length-take (c.args.n - 0) zeros ∙ omega arith) a.answers a.leaves
     in
     elim c.if-eq.branch [
-      | then-eq w ↦ uint_read c.args.n c.from-le-bytes.result m after held w.reverse.new.self c.if-eq.bytes (omega arith) d (search rules) w.bytes-is c.from-le-bytes.ensures
-      | else-eq w ↦ uint_read c.args.n c.from-le-bytes.result m after held held c.if-eq.bytes (omega arith) d (search rules) w.bytes-is c.from-le-bytes.ensures
+      | then-eq w ↦ uint_read c.args.n c.from_le_bytes.result m after held w.reverse.new.self c.if-eq.bytes (omega arith) d (search rules) w.bytes-is c.from_le_bytes.ensures
+      | else-eq w ↦ uint_read c.args.n c.from_le_bytes.result m after held held c.if-eq.bytes (omega arith) d (search rules) w.bytes-is c.from_le_bytes.ensures
     ]

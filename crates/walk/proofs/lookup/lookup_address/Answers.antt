@@ -6,37 +6,37 @@ use Rattle.walk.specs.Links.{sought_by}
 use Rattle.walk.proofs.Looks.{look_all, looks, looks_shorter, in_arm, none_of}
 use Rattle.walk.proofs.lookup.lookup_address.Goals as goal
 
-pub lookup-in-set-sought-requires : goal.lookup-in-set-sought-requires
-lookup-in-set-sought-requires g c =
-    let f = header_is g.R.Reader.means g.Offset.ReaderOffset.number in
+pub lookup_in_set-sought-requires : goal.lookup_in_set-sought-requires
+lookup_in_set-sought-requires g c =
+    let f = header_is g.R.Reader.means g.R.Offset.ReaderOffset.number in
     let m = g.R.Reader.means c.loop-headers.headers.input in
     let a = g.R.Reader.means c.next.new.self.input in
-    let d = in_arm f g.Offset.ReaderOffset.limit c.loop-headers.headers.start m a c.in-ok-header.field-0 (Some c.in-Some.header) c.in-Some.is c.in-ok-header.ensures.did in
-    let s = looks_shorter f g.Offset.ReaderOffset.limit c.loop-headers.headers.start m a c.in-Some.header d in
-    omega (arith, s, c.loop-headers.invariant.1, c.into-u64-total.ensures, c.len.ensures)
+    let d = in_arm f g.R.Offset.ReaderOffset.limit c.loop-headers.headers.start m a c.in_ok-header.field-0 (Some c.in-Some.header) c.in-Some.is c.in_ok-header.ensures.did in
+    let s = looks_shorter f g.R.Offset.ReaderOffset.limit c.loop-headers.headers.start m a c.in-Some.header d in
+    omega (arith, s, c.loop-headers.invariant.1, c.into_u64-total.ensures, c.len.ensures)
 
 pub loop-headers-smaller : goal.loop-headers-smaller
 loop-headers-smaller g c =
-    let f = header_is g.R.Reader.means g.Offset.ReaderOffset.number in
+    let f = header_is g.R.Reader.means g.R.Offset.ReaderOffset.number in
     let m = g.R.Reader.means c.loop-headers.headers.input in
     let a = g.R.Reader.means c.next.new.self.input in
-    let d = in_arm f g.Offset.ReaderOffset.limit c.loop-headers.headers.start m a c.in-ok-header.field-0 (Some c.in-Some.header) c.in-Some.is c.in-ok-header.ensures.did in
-    let s = looks_shorter f g.Offset.ReaderOffset.limit c.loop-headers.headers.start m a c.in-Some.header d in
+    let d = in_arm f g.R.Offset.ReaderOffset.limit c.loop-headers.headers.start m a c.in_ok-header.field-0 (Some c.in-Some.header) c.in-Some.is c.in_ok-header.ensures.did in
+    let s = looks_shorter f g.R.Offset.ReaderOffset.limit c.loop-headers.headers.start m a c.in-Some.header d in
     omega (arith, s)
 
 pub loop-headers-preserved : goal.loop-headers-preserved
 loop-headers-preserved g c =
-    let f = header_is g.R.Reader.means g.Offset.ReaderOffset.number in
+    let f = header_is g.R.Reader.means g.R.Offset.ReaderOffset.number in
     let m = g.R.Reader.means c.loop-headers.headers.input in
     let a = g.R.Reader.means c.next.new.self.input in
     let i = (g.R.Reader.means c.args.section.now.section).id in
-    let t = g.Offset.ReaderOffset.limit in
-    let p = c.lookup-in-set-sought.result.passed in
-    let d = in_arm f t c.loop-headers.headers.start m a c.in-ok-header.field-0 (Some c.in-Some.header) c.in-Some.is c.in-ok-header.ensures.did in
+    let t = g.R.Offset.ReaderOffset.limit in
+    let p = c.lookup_in_set-sought.result.passed in
+    let d = in_arm f t c.loop-headers.headers.start m a c.in_ok-header.field-0 (Some c.in-Some.header) c.in-Some.is c.in_ok-header.ensures.did in
     let s = looks_shorter f t c.loop-headers.headers.start m a c.in-Some.header d in
-    let n = none_of c.lookup-in-set-sought.result.entry c.in-default-entry.not-Some in
+    let n = none_of c.lookup_in_set-sought.result.entry c.in_default-entry.not-Some in
     let e = looks f t i c.loop-headers.headers.start c.args.address c.loop-headers.passed m a (Ok (Some c.in-Some.header)) c.loop-headers.invariant.2 d in (
-      sym (e ∙ ap (λ (x : Sought). go_on (f c.in-Some.header) x (λ k. look_all t i c.args.address k a)) (sym c.lookup-in-set-sought.ensures.seeks ∙ ap (λ (o : Option ArangeEntry). sought_by o p) n)) ∙ c.loop-headers.invariant.0,
-      omega (arith, s, c.loop-headers.invariant.1, c.lookup-in-set-sought.ensures.bound),
-      c.in-ok-header.ensures.start ∙ c.loop-headers.invariant.2,
+      sym (e ∙ ap (λ (x : Sought). go_on (f c.in-Some.header) x (λ k. look_all t i c.args.address k a)) (sym c.lookup_in_set-sought.ensures.seeks ∙ ap (λ (o : Option ArangeEntry). sought_by o p) n)) ∙ c.loop-headers.invariant.0,
+      omega (arith, s, c.loop-headers.invariant.1, c.lookup_in_set-sought.ensures.bound),
+      c.in_ok-header.ensures.start ∙ c.loop-headers.invariant.2,
     )

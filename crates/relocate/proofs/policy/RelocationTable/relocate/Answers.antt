@@ -21,8 +21,8 @@ returns-in-1 c =
     let e = here c.args.self.now.records.now c.loop-record.record-index c.args.offset c.args.value c.loop-record-test.true c.loop-record.invariant in
     search rules
 
-pub returns-in-default : goal.returns-in-default
-returns-in-default c =
+pub returns-in_default : goal.returns-in_default
+returns-in_default c =
     let e = here c.args.self.now.records.now c.loop-record.record-index c.args.offset c.args.value c.loop-record-test.true c.loop-record.invariant in
     search rules
 
