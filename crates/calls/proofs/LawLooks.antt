@@ -1,7 +1,7 @@
 -- Lookups: the law of lookups pins the answer, and the machine gives it.
 use Rattle.std.proofs.Common.{◌≡◌, ℕ, zero, suc, ◌+◌, ◌*◌, ◌<◌, ◌≤◌, Bool, true, false, cond, eqb, ltb, leb, ◌⊎◌, List, [], ◌∷◌, ◌++◌, length, drop, sym, refl, ap, ◌∙◌, subst, inl, inr, arith, length-drop}
 use Rattle.std.proofs.lemmas.List.{append-nil, drop-drop}
-use Rattle.std.proofs.lemmas.Bool.{and_parts, and_from, leb-true, leb-false, ltb-true, le-leb, lt-leb, lt-ltb, cond-true, cond_false, cases_lt, eq-eqb, ne_eqb}
+use Rattle.std.proofs.lemmas.Bool.{and_parts, and_from, leb-true, leb-false, ltb-true, le-leb, lt-leb, lt-ltb, cond-true, cond-false, cases_lt, eq-eqb, ne_eqb}
 use Rattle.readers.specs.Outcome.{Outcome, answer, fault}
 use Rattle.readers.specs.Reading.{Meaning, past, at}
 use Rattle.aranges.specs.Sets.{Header, header_at, span}
@@ -65,7 +65,7 @@ search_skips a (x ∷ xs) ys c n = go x.1 n.0 (λ d. search_skips a xs ys d n.1)
     go nothing u rec = let e : c + passed xs ≡ c + (0 + passed xs) = omega arith in rec c ∙ ap (λ (d : ℕ). searched a ys d) e
     go (entry x) u rec =
         let e : c + passed xs ≡ c + (0 + passed xs) = omega arith in
-        cond_false (holds a x) _ _ (holds_false a x u) ∙ (rec c ∙ ap (λ (d : ℕ). searched a ys d) e)
+        cond-false (holds a x) _ _ (holds_false a x u) ∙ (rec c ∙ ap (λ (d : ℕ). searched a ys d) e)
     go overflow u rec = let e : (c + 1) + passed xs ≡ c + (1 + passed xs) = omega arith in rec (c + 1) ∙ ap (λ (d : ℕ). searched a ys d) e
     go (refused f) u rec = let e : (c + 1) + passed xs ≡ c + (1 + passed xs) = omega arith in rec (c + 1) ∙ ap (λ (d : ℕ). searched a ys d) e
 
@@ -191,7 +191,7 @@ module _ (limit : ℕ) (m : Meaning) (a : ℕ) where
       → look limit a c p (suc n) (past p m)
       ≡ (elim o [ answer h ↦ elim (seek_in a c h) [ ended e d ↦ range e h.info h.place d | going d ↦ look limit a d (p + span h) n (past (span h) (past p m)) ] | fault f ↦ spoilt f ])
   look_goes p n c o l e =
-      cond_false (eqb (length (drop p m.rest)) 0) _ _ (ne_eqb (length (drop p m.rest)) 0 (λ z. omega (arith, length-drop p m.rest, z)))
+      cond-false (eqb (length (drop p m.rest)) 0) _ _ (ne_eqb (length (drop p m.rest)) 0 (λ z. omega (arith, length-drop p m.rest, z)))
       ∙ ap (λ (v : Outcome Header). elim v [ answer h ↦ elim (seek_in a c h) [ ended e d ↦ range e h.info h.place d | going d ↦ look limit a d (p + span h) n (past (span h) (past p m)) ] | fault f ↦ spoilt f ]) e
 
   look_none : (n p c : ℕ) → Bad (header_at limit m p) → length m.rest ≤ p + n
