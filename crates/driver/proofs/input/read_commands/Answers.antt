@@ -8,7 +8,7 @@ use Rattle.driver.proofs.input.read_commands.Goals as goal
 pub loop-input-preserved : goal.loop-input-preserved
 loop-input-preserved c =
     asks_more (slice_means c.args.input) (slice_means c.loop-input.input) (slice_means c.read_call.new.input) (vec_items c.loop-input.calls) (vec_items c.push.new.self) c.in-Ok.call
-    c.in_ok-push.ensures.items c.in-Ok.ensures.read c.loop-input.invariant
+    c.in_ok-push-in-Ok.ensures.items c.in-Ok.ensures.read c.loop-input.invariant
 
 pub returns-in-Err : goal.returns-in-Err
 returns-in-Err c =

@@ -30,7 +30,7 @@ returns-in_err-read_record c =
     let a = slice_means c.read_u16.new.reader in
     faulted vec_items c.from_residual-in_err-read_record.result (slice_means c.read_record.new.input) (records_step m)
     (fault_is c.in_err-read_record.field-0.0) c.from_residual-in_err-read_record.ensures.1
-    (counted n m a c.in_ok-count.ensures c.if-count-gt-MAX-RECORDS.false
+    (counted n m a c.in_ok-count.ensures c.if-count-gt-MAX_RECORDS.false
     ∙ many_refused (some_records n a) (n - i) (n - (i + 1)) (vec_items c.loop.records) c.in_err-read_record.field-0.0 (slice_means c.loop.input)
     (slice_means c.read_record.new.input) less c.in_err-read_record.ensures c.loop.invariant)
 
@@ -47,5 +47,5 @@ returns c =
     let m = slice_means c.args.input.now in
     let a = slice_means c.read_u16.new.reader in
     gave vec_items c.loop.records (slice_means c.loop.input) (records_step m)
-    (counted n m a c.in_ok-count.ensures c.if-count-gt-MAX-RECORDS.false
+    (counted n m a c.in_ok-count.ensures c.if-count-gt-MAX_RECORDS.false
     ∙ many_end (some_records n a) (n - i) (vec_items c.loop.records) (slice_means c.loop.input) none c.loop.invariant)
