@@ -1,14 +1,14 @@
 -- What next answers, from what next raw answers: both look at the same tuples.
-use Rattle.std.proofs.Common.{◌≡◌, ℕ, zero, suc, ◌+◌, ◌-◌, ◌*◌, ◌/◌, ◌^◌, ◌<◌, ◌≤◌, Bool, true, false, cond, eqb, ltb, leb, ◌⊎◌, length, IsErrAnd, Some, None, Ok, Err, Option, Result, sym, refl, ap, ◌∙◌, subst, inl, inr, ⊎_elim, arith, length-drop}
+use Rattle.std.proofs.Common.{◌≡◌, ℕ, zero, suc, ◌+◌, ◌-◌, ◌*◌, ◌/◌, ◌^◌, ◌<◌, ◌≤◌, Bool, true, false, cond, ltb, leb, ◌⊎◌, length, IsErrAnd, Some, None, Ok, Err, Option, Result, sym, refl, ap, ◌∙◌, subst, inl, inr, ⊎_elim, arith, length-drop}
 use native.Mathlib.Nat.{div-zero}
-use Rattle.std.proofs.lemmas.Bool.{cases_lt, cases_Bool}
+use Rattle.std.proofs.lemmas.Bool.{cases_lt}
 use Rattle.std.proofs.lemmas.Result.{err_from_is_err_and}
 use Rattle.readers.specs.declared.error.Error.{Error}
-use Rattle.readers.specs.Outcome.{Outcome, Fault, answer, fault, fault_of}
+use Rattle.readers.specs.Outcome.{Outcome, answer, fault, fault_of}
 use Rattle.readers.specs.Reading.{Meaning, past, is_size}
 use Rattle.readers.specs.Links.{fault_is, option_is}
 use Rattle.aranges.specs.declared.aranges.ArangeEntry.{ArangeEntry}
-use Rattle.aranges.specs.Tuples.{Kind, raw, converted, Entry, Says, nothing, entry, overflow, refused, Told, found, failed, over, tuple, two, pair, is_null, convert}
+use Rattle.aranges.specs.Tuples.{Kind, raw, converted, Entry, nothing, entry, overflow, refused, Told, found, failed, over, tuple, two, pair, is_null, convert}
 use Rattle.aranges.specs.Iterators.{Left, first, count, draw}
 use Rattle.readers.specs.Reading.{emptied}
 use Rattle.aranges.specs.Links.{Drew, told_is, said, entry_is}

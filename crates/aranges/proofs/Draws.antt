@@ -1,14 +1,14 @@
 -- The tuples of a walk one by one: what the first left says of `first`.
-use Rattle.std.proofs.Common.{◌≡◌, ℕ, zero, suc, ◌+◌, ◌-◌, ◌*◌, ◌/◌, ◌<◌, ◌≤◌, Bool, true, false, cond, eqb, leb, ◌⊎◌, List, length, take, drop, Ok, Err, Option, Result, sym, refl, ap, ◌∙◌, subst, inl, inr, ⊎_elim, add-zero, add_assoc, add-one, arith, length-drop, drop-drop}
+use Rattle.std.proofs.Common.{◌≡◌, ℕ, suc, ◌+◌, ◌-◌, ◌*◌, ◌/◌, ◌<◌, ◌≤◌, Bool, true, false, cond, eqb, leb, ◌⊎◌, length, take, Ok, Err, Option, Result, sym, refl, ap, ◌∙◌, subst, inl, inr, add_assoc, add-one, arith, length-drop, drop-drop}
 use native.Mathlib.Nat.{div-eq_of_lt, div-eq-sub-div, div-zero}
-use Rattle.std.proofs.lemmas.Bool.{cases_Bool, ne_eqb, and_right}
+use Rattle.std.proofs.lemmas.Bool.{ne_eqb, and_right}
 use Rattle.readers.specs.Outcome.{Outcome, Fault, answer, fault}
-use Rattle.readers.specs.Reading.{Meaning, Step, then, past, address, fixed, relocated, is_size, gives, refuses, spelt}
+use Rattle.readers.specs.Reading.{Meaning, Step, then, past, address, relocated, is_size, gives, refuses, spelt}
 use Rattle.readers.specs.declared.error.Error.{Error}
 use Rattle.aranges.specs.declared.aranges.ArangeEntry.{ArangeEntry}
 use Rattle.aranges.specs.Links.{Drew, told_is}
 use Rattle.readers.specs.Links.{Did, fault_is}
-use Rattle.aranges.specs.Tuples.{Kind, raw, converted, Entry, Says, nothing, entry, overflow, refused, Told, found, failed, over, tuple, two, second, ended, pair, is_null, convert}
+use Rattle.aranges.specs.Tuples.{Kind, raw, converted, Says, nothing, entry, overflow, refused, Told, found, failed, over, tuple, two, second, ended, pair, is_null}
 use Rattle.aranges.specs.Iterators.{Left, first, count, draw}
 use Rattle.readers.specs.Reading.{emptied}
 

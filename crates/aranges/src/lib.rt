@@ -1,5 +1,6 @@
 // Address range sections: the headers of sets, and the tuples of a set.
 #![tactic(auto)]
+
 mod aranges;
 mod rnglists;
 

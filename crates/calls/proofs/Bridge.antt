@@ -2,10 +2,10 @@
 use Rattle.std.proofs.Common.{◌≡◌, ℕ, zero, suc, ◌+◌, ◌-◌, ◌*◌, ◌/◌, Bool, true, false, cond, eqb, ◌⊎◌, List, [], ◌∷◌, length, Some, None, Option, sym, refl, ap, ◌∙◌, subst, inl, inr, arith}
 use native.Mathlib.Nat.{zero-div}
 use Rattle.std.proofs.lemmas.Bool.{eq-eqb}
-use Rattle.readers.specs.Outcome.{Outcome, Fault, answer, fault, fault_of}
+use Rattle.readers.specs.Outcome.{Outcome, answer, fault, fault_of}
 use Rattle.readers.specs.Reading.{Meaning, Step, past, gives}
 use Rattle.aranges.specs.Sets.{Header, span, set_step}
-use Rattle.aranges.specs.Tuples.{Kind, Says, nothing, entry, overflow, refused, Told, found, failed, over, tuple, two}
+use Rattle.aranges.specs.Tuples.{Kind, Says, nothing, entry, overflow, refused, Told, found, failed, over, tuple}
 use Rattle.walk.specs.Events.{Event, header, entries, told, looked, Looked, range, spoilt, missing}
 use Rattle.calls.specs.Law.{Call, next_header, entries_call, next_call, lookup_call}
 use Rattle.calls.specs.Laws.{Owed}

@@ -8,7 +8,7 @@ use Rattle.calls.specs.Runs.{Longest}
 use Rattle.aranges.specs.Tuples.{Kind, Told, failed}
 use Rattle.calls.specs.Reads.{Reads, done}
 use Rattle.walk.specs.Events.{Looked, Event, entries, told, looked}
-use Rattle.calls.specs.Law.{History, Call, newest, latest, opened, asked, Unreset, headers, Heads, Lookup, entered, Lawful, all_of}
+use Rattle.calls.specs.Law.{History, Call, latest, opened, asked, Unreset, headers, Heads, Lookup, entered, Lawful, all_of}
 use Rattle.calls.proofs.Machine.{Walk, Turn, first, look, step, open_walk, replay_from, replay}
 use Rattle.aranges.specs.Iterators.{Left, count}
 use Rattle.calls.proofs.LawRuns.{Stop, scan, longest_of, stops_bad}

@@ -3,7 +3,7 @@ use Rattle.std.proofs.Common.{◌≡◌, ℕ, ◌+◌, ◌-◌, ◌≤◌, Bool,
 use Rattle.std.proofs.lemmas.List.{take-take, drop-take, drop-drop}
 use Rattle.std.proofs.lemmas.Bool.{leb-true, le-leb, cond-true}
 use Rattle.readers.specs.Outcome.{Outcome, answer, fault}
-use Rattle.readers.specs.Reading.{Meaning, Step, at, past, front, gives, refuses, then, spelt, fixed, is_size, fitted, relocated, word, offset, skipped, split_off}
+use Rattle.readers.specs.Reading.{Meaning, Step, at, past, front, gives, refuses, then, spelt, fixed, is_size, fitted, relocated, word, offset, skipped}
 use Rattle.numbers.specs.Numbers.{Initial, initial, size_of_addresses}
 use Rattle.aranges.specs.Sets.{Header, header, span, padding, fields, a_version, version, no_segment, from_segment, sizes, whole, from_padding, from_sizes, from_info, apart, from_length, set_step}
 use Rattle.readers.specs.Reading.{length_size}

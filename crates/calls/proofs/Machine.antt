@@ -1,10 +1,10 @@
 -- The walk as a machine that counts its place: only the proofs of the law speak of it.
-use Rattle.std.proofs.Common.{ℕ, zero, suc, ◌+◌, ◌*◌, ◌/◌, Bool, cond, ◌&&◌, eqb, ltb, leb, List, [], ◌∷◌, length, Some, None, Option}
+use Rattle.std.proofs.Common.{ℕ, zero, suc, ◌+◌, ◌*◌, cond, eqb, List, [], ◌∷◌, length, Some, None, Option}
 use Rattle.readers.specs.Outcome.{answer, fault, fault_of}
-use Rattle.readers.specs.Reading.{Meaning, past, at}
+use Rattle.readers.specs.Reading.{Meaning, past}
 use Rattle.aranges.specs.Sets.{Header, span}
 use Rattle.aranges.specs.Sets as Sets
-use Rattle.aranges.specs.Tuples.{Entry, Kind, converted, Told, found, failed, over, tuple, nothing, entry, overflow, refused}
+use Rattle.aranges.specs.Tuples.{Kind, Told, found, failed, over, tuple, nothing, entry, overflow, refused}
 use Rattle.readers.specs.Reading.{emptied}
 use Rattle.aranges.specs.Iterators.{Left, count}
 use Rattle.walk.specs.Lookups.{Sought, ended, going, seek}

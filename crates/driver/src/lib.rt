@@ -1,5 +1,6 @@
 // What rangewalk does with its input: reads a section and commands, makes the calls, writes a line for each answer.
 #![tactic(auto)]
+
 mod input;
 mod run;
 

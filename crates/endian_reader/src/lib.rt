@@ -1,5 +1,6 @@
 // A reader of a section in memory, with offsets of u32.
 #![tactic(auto)]
+
 mod endian_reader;
 
 pub use endian_reader::EndianReader;

@@ -1,7 +1,7 @@
 -- One byte more, decoded or encoded.
-use Rattle.std.proofs.Common.{◌≡◌, ℕ, suc, ◌+◌, ◌-◌, ◌*◌, ◌/◌, ◌%◌, ◌<◌, ◌≤◌, List, [], ◌∷◌, ◌++◌, length, get_or, take, drop, sym, refl, ap, ◌∙◌, append_assoc, arith, length-drop, get_or-drop, drop-drop}
+use Rattle.std.proofs.Common.{◌≡◌, ℕ, ◌+◌, ◌*◌, ◌/◌, ◌%◌, ◌<◌, ◌≤◌, List, [], ◌∷◌, ◌++◌, length, get_or, drop, sym, refl, ap, ◌∙◌, append_assoc, arith, length-drop, get_or-drop, drop-drop}
 use lib.Utf8.{encode}
-use Rattle.std.proofs.lemmas.List.{append-nil, drop_more, drop_all, take_all}
+use Rattle.std.proofs.lemmas.List.{append-nil, drop_more, drop_all}
 use Rattle.std.proofs.lemmas.Str.Ascii.{encode_ascii}
 use Rattle.hex_digits.specs.Hex.{value, digit, decoded, encoded}
 

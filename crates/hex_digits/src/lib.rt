@@ -1,5 +1,6 @@
 // Bytes as hexadecimal digits, two to a byte, as recorded inputs and answers are written.
 #![tactic(auto)]
+
 ghost use Rattle.std.specs.Prelude.{◌≡◌, ℕ, ◌<◌, IfOk, string_bytes};
 ghost use Rattle.hex_digits.specs.Hex.{value, digit as shown, decoded, encoded};
 

@@ -1,6 +1,6 @@
 -- Thirteen values that any reading of the rules has to give.
-use Rattle.std.specs.Prelude.{ℕ, ◌-◌, ◌^◌, ◌≡◌, List, [], ◌∷◌, ◌++◌, false, ℤ, pos, negsuc, ◌-ℤ◌, replicate}
-use Rattle.readers.specs.Outcome.{Outcome, answer, fault_of}
+use Rattle.std.specs.Prelude.{ℕ, ◌-◌, ◌^◌, ◌≡◌, List, [], ◌∷◌, ◌++◌, false, pos, ◌-ℤ◌, replicate}
+use Rattle.readers.specs.Outcome.{answer, fault_of}
 use Rattle.readers.specs.Reading.{Meaning, plain}
 use Rattle.leb128.specs.Leb128.{unsigned, unsigned_16, signed}
 use Rattle.aranges.specs.Sets.{padding}

@@ -1,5 +1,6 @@
 // Thirteen known values of LEB128 numbers, padding and tuples, proved of the definitions that the contracts cite.
 #![tactic(auto)]
+
 ghost use Rattle.known.specs.Known.{Known};
 
 /// Carries the proof of the known values, all in one; there is nothing to run.

@@ -1,11 +1,11 @@
 -- The shortest form of a number: what it reads as, and why none is shorter. Assumes nothing.
-use Rattle.std.proofs.Common.{◌≡◌, ℕ, zero, suc, ◌+◌, ◌-◌, ◌*◌, ◌/◌, ◌%◌, ◌^◌, ◌<◌, ◌≤◌, Bool, true, false, cond, List, [], ◌∷◌, ◌++◌, length, drop, Ok, sym, refl, ap, ◌∙◌, ap₂, suc-le-suc, zero-le, mul_assoc, mul-add, arith, length-append}
+use Rattle.std.proofs.Common.{◌≡◌, ℕ, zero, suc, ◌+◌, ◌*◌, ◌/◌, ◌%◌, ◌^◌, ◌<◌, ◌≤◌, Bool, true, false, cond, List, [], ◌∷◌, ◌++◌, length, drop, Ok, sym, refl, ap, ◌∙◌, ap₂, suc-le-suc, zero-le, mul_assoc, mul-add, arith, length-append}
 use Rattle.std.proofs.lemmas.Nat.{pow-add}
 use Rattle.std.proofs.lemmas.List.{drop_at}
 use Rattle.readers.specs.Outcome.{answer, fault_of}
 use Rattle.readers.specs.Reading.{Meaning, Step, at, past, gives, then, fixed}
 use Rattle.readers.specs.Links.{Did}
-use Rattle.leb128.specs.Leb128.{spelling, up_to, more, bits, last}
+use Rattle.leb128.specs.Leb128.{spelling, up_to, bits}
 use Rattle.leb128.specs.Turned.{turned}
 use Rattle.readers.proofs.Steps.{gave}
 use Rattle.leb128.proofs.Spelling.{having, one_byte, spelt_last, spelt_more, is_more, not_more, unrolled, first}

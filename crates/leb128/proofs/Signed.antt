@@ -1,5 +1,5 @@
 -- A signed number, byte by byte. Assumes nothing.
-use Rattle.std.proofs.Common.{◌≡◌, ℕ, suc, ◌+◌, ◌-◌, ◌*◌, ◌%◌, ◌^◌, ◌<◌, ◌≤◌, Bool, true, false, cond, ◌||◌, eqb, leb, List, [], ◌∷◌, length, get_or, ℤ, pos, ◌-ℤ◌, Ok, Err, sym, ap, ◌∙◌, ap₂, ⊎_elim, mul_assoc, eq-or-lt_of_le, mul-add, arith}
+use Rattle.std.proofs.Common.{◌≡◌, ℕ, suc, ◌+◌, ◌*◌, ◌%◌, ◌^◌, ◌<◌, ◌≤◌, Bool, true, false, cond, ◌||◌, eqb, leb, List, [], ◌∷◌, length, get_or, ℤ, pos, ◌-ℤ◌, Ok, Err, sym, ap, ◌∙◌, ap₂, ⊎_elim, mul_assoc, eq-or-lt_of_le, mul-add, arith}
 use Rattle.std.proofs.lemmas.Nat.{pow-add, pow_below, one_shl}
 use Rattle.std.proofs.lemmas.Int.{ints}
 use Rattle.std.proofs.lemmas.Bool.Decides.{nat_tests}

@@ -1,14 +1,13 @@
 -- How the bytes of a number are read one by one. Assumes nothing.
-use Rattle.std.proofs.Common.{◌≡◌, ℕ, zero, suc, ◌+◌, ◌-◌, ◌*◌, ◌%◌, ◌^◌, ◌<◌, ◌≤◌, Bool, true, false, cond, leb, List, [], ◌∷◌, ◌++◌, length, IsErrAnd, Ok, Err, Result, sym, refl, ap, ◌∙◌, ap₂, le_refl, mul_comm, arith}
+use Rattle.std.proofs.Common.{◌≡◌, ℕ, zero, suc, ◌+◌, ◌-◌, ◌*◌, ◌%◌, ◌^◌, ◌<◌, ◌≤◌, Bool, true, false, cond, leb, List, [], ◌∷◌, ◌++◌, length, Ok, Err, sym, refl, ap, ◌∙◌, ap₂, le_refl, mul_comm, arith}
 use lib.Bits.{bit_and, bit_or}
 use Rattle.std.proofs.lemmas.Nat.{and_mask, or_comm, or_shifted, shl_whole, pow-add, mul-le}
 use Rattle.readers.specs.declared.error.Error.{Error}
-use Rattle.std.proofs.lemmas.Result.{err_from_is_err_and}
-use Rattle.readers.specs.Outcome.{Outcome, Fault, answer, fault}
+use Rattle.readers.specs.Outcome.{fault}
 use Rattle.readers.specs.Reading.{Meaning, Step, at, gives, refuses, then, fixed, spelt}
 use Rattle.readers.specs.Links.{Did, fault_is}
 use Rattle.readers.proofs.Steps.{then_answered, then_faulted, then_then, then_same}
-use Rattle.leb128.specs.Leb128.{spelling, up_to, more, bits, passed}
+use Rattle.leb128.specs.Leb128.{spelling, up_to, more, passed}
 
 -- the first byte of a spelling, and what goes on with the rest
 abbrev pub first : {A : Type 0} → (ℕ → Bool) → List (ℕ → Bool) → (List ℕ → Meaning → Step A) → ℕ → Meaning → Step A

@@ -1,5 +1,5 @@
 -- An unsigned number, byte by byte. Assumes nothing.
-use Rattle.std.proofs.Common.{◌≡◌, ℕ, suc, ◌+◌, ◌-◌, ◌*◌, ◌%◌, ◌^◌, ◌<◌, ◌≤◌, Bool, true, false, cond, leb, List, [], ◌∷◌, get_or, Ok, Err, sym, ap, ◌∙◌, ap₂, ⊎_elim, mul_assoc, eq-or-lt_of_le, mul-add, arith}
+use Rattle.std.proofs.Common.{◌≡◌, ℕ, suc, ◌+◌, ◌*◌, ◌%◌, ◌^◌, ◌<◌, ◌≤◌, Bool, true, false, cond, leb, List, [], ◌∷◌, get_or, Ok, Err, sym, ap, ◌∙◌, ap₂, ⊎_elim, mul_assoc, eq-or-lt_of_le, mul-add, arith}
 use lib.Bits.{bit_or}
 use Rattle.readers.specs.declared.error.Error.{Error}
 use Rattle.readers.specs.Outcome.{fault}

@@ -1,5 +1,6 @@
 // rangewalk's output: the names of faults, and a line for each answer of a walk.
 #![tactic(auto)]
+
 mod names;
 mod output;
 

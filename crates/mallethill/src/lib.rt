@@ -1,5 +1,6 @@
 // speed experiment
 #![tactic(auto)]
+
 use aranges::{ArangeEntryIter, ArangeHeaderIter, DebugAranges};
 use endian_slice::EndianSlice;
 use leb128::read_uleb128;

@@ -1,5 +1,6 @@
 // Reads of numbers, written once for every reader, and addresses of a size.
 #![tactic(auto)]
+
 mod address;
 mod read;
 

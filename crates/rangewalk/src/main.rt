@@ -1,5 +1,6 @@
 // rangewalk: answers the commands on standard input over the section that stands before them.
 #![tactic(auto)]
+
 use driver::{MAX_INPUT, transcript};
 use std::io;
 use std::io::Read;

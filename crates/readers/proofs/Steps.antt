@@ -1,10 +1,10 @@
 -- Laws of steps: one after another, and what a call did that gave an answer or a fault.
-use Rattle.std.proofs.Common.{◌≡◌, IsErrAnd, Ok, Err, Result, sym, refl, ap, ◌∙◌}
+use Rattle.std.proofs.Common.{◌≡◌, IsErrAnd, Ok, Err, Result, sym, refl, ap}
 use Rattle.std.proofs.lemmas.Result.{err_from_is_err_and}
 use Rattle.readers.specs.declared.error.Error.{Error}
 use Rattle.readers.specs.Outcome.{Outcome, Fault, answer, fault}
 use Rattle.readers.specs.Reading.{Meaning, Step, gives, then}
-use Rattle.readers.specs.Links.{Did, fault_is, outcome_is}
+use Rattle.readers.specs.Links.{Did, fault_is}
 
 abbrev pub ends : {A : Type 0} → Outcome A → Meaning → Step A
 ends o a = record { outcome = o; after = a }

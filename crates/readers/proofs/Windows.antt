@@ -1,6 +1,6 @@
 -- a part of a section: its length, its front, what is past that, and the id there
-use Rattle.std.proofs.Common.{◌≡◌, ℕ, ◌+◌, ◌-◌, ◌^◌, ◌<◌, ◌≤◌, min, Bool, List, [], length, get_or, take, drop, sym, refl, ap, ◌∙◌, arith, length-drop, length-take, take-take, drop-drop, rules}
-use Rattle.std.proofs.lemmas.List.{drop-take, drop_all, take_all, same_lists, places, nil_from_length}
+use Rattle.std.proofs.Common.{◌≡◌, ℕ, ◌+◌, ◌-◌, ◌≤◌, min, Bool, List, length, take, drop, sym, ap, ◌∙◌, arith, length-drop, length-take, take-take, drop-drop, rules}
+use Rattle.std.proofs.lemmas.List.{drop-take, take_all, same_lists, places, nil_from_length}
 use Rattle.readers.specs.Reading.{Meaning, at, plain, past, front}
 use Rattle.readers.specs.Sections.{part, id_of, highest}
 

@@ -1,6 +1,6 @@
 -- What a reader means, and for each call the outcome and the reader after it.
 use Rattle.std.specs.Prelude.{ℕ, ◌+◌, ◌-◌, ◌*◌, Bool, cond, ◌&&◌, ◌||◌, List, [], ◌∷◌, reverse, length, take, drop, Some, None, Option, ◌==◌, nat_le, nat_lt}
-use Rattle.readers.specs.Outcome.{Outcome, Fault, answer, fault, fault_of}
+use Rattle.readers.specs.Outcome.{Outcome, answer, fault, fault_of}
 
 -- A reader: the id of its next byte, the bytes left, whether the highest byte of a number comes first, and its
 -- relocation, which says of the id and the value of an address or an offset what it becomes.

@@ -1,5 +1,5 @@
 -- A section in memory: its parts, the ids of its places, and what opening it gives.
-use Rattle.std.specs.Prelude.{ℕ, ◌+◌, ◌-◌, ◌^◌, min, Bool, cond, leb, List, length, take, drop}
+use Rattle.std.specs.Prelude.{ℕ, ◌+◌, ◌-◌, ◌^◌, min, Bool, cond, List, length, take, drop}
 use Rattle.readers.specs.Outcome.{Outcome, answer, fault_of}
 use Rattle.readers.specs.Reading.{Meaning, plain}
 

@@ -1,5 +1,6 @@
 // What a reader of a section is: faults, byte order, formats, offsets, and the two reader traits.
 #![tactic(auto)]
+
 mod common;
 mod endianity;
 mod error;

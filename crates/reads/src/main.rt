@@ -4,6 +4,7 @@
 // order 0 Little, 1 Big; `-` for no bytes); `wu NUMBER` and `ws NUMBER` write LEB128;
 // `reloc KIND ORDER HEX RECORDS RECORDS SKIP CALL:NUMBER` skips bytes under one table and calls under two.
 #![tactic(auto)]
+
 use endian_reader::EndianReader;
 use endian_slice::EndianSlice;
 use hex_digits::{decode, encode};

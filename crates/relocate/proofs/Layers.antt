@@ -1,5 +1,5 @@
 -- A layer of relocation over a reader: each relocated read is the reader's own, and then the policy's answer.
-use Rattle.std.proofs.Common.{◌≡◌, ℕ, ◌-◌, Bool, true, false, cond, leb, length, take, refl, ap, ◌∙◌}
+use Rattle.std.proofs.Common.{◌≡◌, ℕ, ◌-◌, true, false, cond, leb, length, take, refl, ap, ◌∙◌}
 use Rattle.readers.specs.Outcome.{Outcome, answer, fault}
 use Rattle.readers.specs.Reading.{Meaning, Step, gives, refuses, then, past, spelt, fixed, is_size, sized, fitting, fitted, relocated, word, sized_word, address, offset, sized_offset}
 use Rattle.relocate.specs.Relocating.{layered, and_then}

@@ -1,5 +1,6 @@
 // Relocation: what becomes of the addresses and offsets that are read from an unlinked section.
 #![tactic(auto)]
+
 mod policy;
 mod relocate;
 

@@ -1,6 +1,7 @@
 // replay: runs many inputs of rangewalk in one process. Each line of standard input is an input in hexadecimal digits; what
 // rangewalk would write for it is written, and then a line with `=`.
 #![tactic(auto)]
+
 use driver::transcript;
 use hex_digits::decode;
 use std::io;

@@ -1,5 +1,5 @@
 -- A lookup over the sets, from what next header answers.
-use Rattle.std.proofs.Common.{◌≡◌, ℕ, zero, suc, ◌+◌, ◌<◌, ◌≤◌, length, Some, None, Ok, Err, Option, Result, sym, refl, ap, ◌∙◌, subst, arith}
+use Rattle.std.proofs.Common.{◌≡◌, ℕ, zero, suc, ◌+◌, ◌<◌, ◌≤◌, length, Some, None, Ok, Option, Result, sym, refl, ap, ◌∙◌, subst, arith}
 use Rattle.readers.specs.declared.error.Error.{Error}
 use Rattle.readers.specs.Links.{Did, outcome_is, option_is}
 use Rattle.readers.specs.Outcome.{Outcome, answer, fault}
@@ -7,7 +7,7 @@ use Rattle.readers.specs.Reading.{Meaning}
 use Rattle.aranges.specs.Sets.{Header}
 use Rattle.aranges.specs.Iterators.{entries_of, next_set}
 use Rattle.aranges.proofs.Shorter.{next_shorter, next_none}
-use Rattle.walk.specs.Events.{Looked, range, spoilt, missing}
+use Rattle.walk.specs.Events.{Looked, missing}
 use Rattle.walk.specs.Lookups.{Sought, ended, going, seek_on, go_on, look_by, look}
 
 -- enough fuel is as good as any

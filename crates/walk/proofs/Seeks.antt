@@ -1,17 +1,17 @@
 -- A lookup in one set, from what next answers.
-use Rattle.std.proofs.Common.{◌≡◌, ℕ, zero, suc, ◌+◌, ◌*◌, ◌/◌, ◌<◌, ◌≤◌, Bool, true, false, cond, ltb, leb, ◌⊎◌, length, Some, None, Ok, Err, Option, Result, sym, refl, ap, ◌∙◌, subst, inl, inr, arith, length-drop}
+use Rattle.std.proofs.Common.{◌≡◌, ℕ, zero, suc, ◌+◌, ◌*◌, ◌<◌, ◌≤◌, true, false, cond, ltb, leb, ◌⊎◌, length, Some, None, Ok, Err, Option, Result, sym, refl, ap, subst, inl, inr, arith, length-drop}
 use native.Mathlib.Nat.{zero-div}
 use Rattle.std.proofs.lemmas.Bool.{and_from, and_left, and_right, le-leb, lt-leb, lt-ltb, le-ltb}
 use Rattle.aranges.specs.declared.rnglists.Range.{Range}
 use Rattle.readers.specs.declared.error.Error.{Error}
 use Rattle.readers.specs.Reading.{Meaning, past}
 use Rattle.aranges.specs.declared.aranges.ArangeEntry.{ArangeEntry}
-use Rattle.aranges.specs.Tuples.{Kind, converted, Entry, Says, nothing, entry, overflow, refused, Told, found, failed, over, tuple, two}
+use Rattle.aranges.specs.Tuples.{converted, Says, nothing, entry, overflow, refused, Told, found, failed, over, tuple, two}
 use Rattle.aranges.specs.Iterators.{Left, first, count, draw}
 use Rattle.readers.specs.Reading.{emptied}
 use Rattle.walk.specs.Lookups.{Sought, ended, going, holds, seek, seek_on}
 use Rattle.aranges.specs.Links.{Drew, told_is, entry_is}
-use Rattle.aranges.proofs.Draws.{left, as_left, first_by, first_more}
+use Rattle.aranges.proofs.Draws.{left, first_by, first_more}
 use Rattle.aranges.proofs.Converts.{counted}
 
 -- what a lookup x is, by next's answer t, which leaves b

@@ -1,4 +1,4 @@
-use Rattle.std.proofs.Common.{◌≡◌, ◌<◌, ◌≤◌, map, length, get_or, vec_items, arith}
+use Rattle.std.proofs.Common.{◌≡◌, ◌<◌, ◌≤◌, map, length, vec_items, arith}
 use Rattle.std.proofs.lemmas.Result.{IfOk-from_err}
 use Rattle.calls.specs.declared.calls.Call.TheVariants.{NextHeader}
 use Rattle.calls.proofs.Replay.{replay_from, replay}

@@ -1,4 +1,4 @@
-use Rattle.std.proofs.Common.{◌-◌, [], ◌∷◌, length, take, ◌∙◌, arith, length-take, rules}
+use Rattle.std.proofs.Common.{◌-◌, length, take, ◌∙◌, arith, length-take, rules}
 use Rattle.readers.specs.Reading.{Meaning}
 use Rattle.numbers.proofs.Uint.{uint_read, copied_is, Copied, zeros}
 use Rattle.numbers.proofs.read.read_uint.Goals as goal

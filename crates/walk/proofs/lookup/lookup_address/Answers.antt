@@ -1,4 +1,4 @@
-use Rattle.std.proofs.Common.{◌≡◌, ℕ, ◌+◌, ◌≤◌, Some, None, Ok, Option, sym, ap, ◌∙◌, arith}
+use Rattle.std.proofs.Common.{Some, Ok, Option, sym, ap, ◌∙◌, arith}
 use Rattle.aranges.specs.declared.aranges.ArangeEntry.{ArangeEntry}
 use Rattle.walk.specs.Lookups.{Sought, go_on}
 use Rattle.aranges.specs.Links.{header_is}

@@ -1,8 +1,8 @@
-use Rattle.std.proofs.Common.{◌≡◌, ℕ, ◌+◌, ◌<◌, Bool, cond, length, Some, None, Ok, Err, sym, refl, ap, ◌∙◌, subst, arith}
+use Rattle.std.proofs.Common.{Bool, cond, length, Some, None, Err, sym, ap, ◌∙◌, arith}
 use Rattle.aranges.specs.Iterators.{Left}
-use Rattle.walk.specs.Lookups.{Sought, seek_on, ended, going}
+use Rattle.walk.specs.Lookups.{seek_on, ended}
 use Rattle.aranges.specs.Links.{entries_is, entry_is}
-use Rattle.walk.proofs.Seeks.{Seeks, seeks, seeks_ok, held, not_held}
+use Rattle.walk.proofs.Seeks.{seeks, seeks_ok, held, not_held}
 use Rattle.walk.proofs.lookup.lookup_in_set.Goals as goal
 
 pub returns-in-None : goal.returns-in-None

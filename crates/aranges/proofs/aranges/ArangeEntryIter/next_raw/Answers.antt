@@ -1,8 +1,8 @@
-use Rattle.std.proofs.Common.{◌≡◌, ℕ, ◌*◌, ◌<◌, ◌≤◌, length, Some, None, Ok, Err, sym, refl, ap, ◌∙◌, inl, inr, arith}
+use Rattle.std.proofs.Common.{◌*◌, ◌≤◌, length, Some, None, Ok, Err, sym, refl, ap, ◌∙◌, inl, inr, arith}
 use Rattle.readers.specs.declared.common.Encoding.{Encoding}
 use Rattle.aranges.specs.Tuples.{raw}
 use Rattle.readers.specs.Reading.{emptied}
-use Rattle.aranges.proofs.Draws.{left, draw_none, draw_null, draw_raw, draw_refused, two_shorter, null_of, not_null_of, drew}
+use Rattle.aranges.proofs.Draws.{draw_none, draw_null, draw_raw, draw_refused, two_shorter, null_of, not_null_of, drew}
 use Rattle.aranges.proofs.aranges.ArangeEntryIter.next_raw.Goals.{then-loop-self-test+else-tuple_length-into_u64, else-loop-self-test}
 use Rattle.aranges.proofs.aranges.ArangeEntryIter.next_raw.Goals as goal
 

@@ -1,9 +1,8 @@
 -- Each exit is the step's fault so far; the end is its answer.
-use Rattle.std.proofs.Common.{◌≡◌, ℕ, Result, sym, refl, ap, ◌∙◌}
-use Rattle.readers.specs.Reading.{Meaning, Step, gives, skipped}
-use Rattle.readers.specs.Links.{Did, word_of}
-use Rattle.readers.specs.declared.error.Error.{Error}
-use Rattle.aranges.specs.Sets.{Header, whole, from_padding, from_sizes, from_info, fields}
+use Rattle.std.proofs.Common.{sym, ap, ◌∙◌}
+use Rattle.readers.specs.Reading.{Step}
+use Rattle.readers.specs.Links.{word_of}
+use Rattle.aranges.specs.Sets.{Header, whole, from_padding, from_sizes, from_info}
 use Rattle.aranges.specs.Links.{header_is}
 use Rattle.readers.proofs.Steps.{then_did, then_refused, exits}
 use Rattle.aranges.proofs.aranges.ArangeHeader.parse_fields.Goals as goal
