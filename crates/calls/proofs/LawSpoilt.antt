@@ -47,7 +47,7 @@ pub run_join : (limit : ℕ) (m : Meaning) {p q r : ℕ} {hs gs : List Header} �
 run_join limit m none t = t
 run_join limit m (set e s) t = set e (run_join limit m s t)
 
--- a run over two lists of sets, split_off
+-- a run over two lists of sets, split-off
 pub record Parted (limit : ℕ) (m : Meaning) (p : ℕ) (hs gs : List Header) (q : ℕ) : Type 0 where
   pub turn : ℕ
   pub left : Run limit m p hs turn
