@@ -5,7 +5,7 @@
 
 The bugs stand in planted/bugs.txt: a line `crate file`, then lines `- old`, `+ new` (several of each where a bug takes
 more lines), then an empty line. With --edits the must-fail edits of the crates are tried in their place. Each bug is
-tried with `rt dev`, which takes over what did not change, in a scratch copy of the repository under /tmp.
+tried with `rt check`, which takes over what did not change, in a scratch copy of the repository under /tmp.
 
     refused   a fact that has to be proved fails: the line tells the first
     answer    an answer in a proof file no longer proves its fact: look whether the fact is false, or only its names changed
@@ -42,9 +42,11 @@ def edits(root):
 
 
 def verdict(output):
-    if re.search(r"^logic=proved", output, re.M):
+    # the crates below come first, and each has such a line
+    verdicts = re.findall(r"^logic=(\S+)", output, re.M)
+    if verdicts and verdicts[-1] == "proved":
         return "PROVED", ""
-    facts = re.findall(r"note: \S*?/(src/\S+): it is not proved that (.*)", output)
+    facts = re.findall(r"(?:^|\s)(?:\./)?(src/\S+): (?:note: )?it is not proved that (.*)", output, re.M)
     if re.search(r"error\[", output) and not facts:
         return "unfit", re.search(r"error\[.*", output).group(0)[:150]
     if facts:
@@ -60,7 +62,7 @@ def verdict(output):
 def main(arguments):
     root = os.path.dirname(os.path.dirname(os.path.abspath(__file__)))
     scratch = "/tmp/planted-%d" % os.getpid()
-    shutil.copytree(root, scratch, ignore=shutil.ignore_patterns(".git"), symlinks=True)
+    shutil.copytree(root, scratch, ignore=shutil.ignore_patterns(".git", "out"), symlinks=True)
     chosen = [a for a in arguments if not a.startswith("--")]
     source = edits(root) if "--edits" in arguments else bugs(root + "/planted/bugs.txt")
     counts = {}
@@ -73,8 +75,8 @@ def main(arguments):
             result, note = "unfit", "stands %d times" % text.count(old)
         else:
             open(path, "w").write(text.replace(old, new))
-            run = subprocess.run(["rt", "dev", crate], cwd=scratch, capture_output=True, text=True,
-                                 env=dict(os.environ, RT_JOBS="1", RT_CUT="0"))
+            folder = os.path.join(scratch, "crates", crate)
+            run = subprocess.run(["rt", "check", "--jobs", "1"], cwd=folder, capture_output=True, text=True)
             result, note = verdict(run.stdout + run.stderr)
             open(path, "w").write(text)
         counts[result] = counts.get(result, 0) + 1

@@ -1,5 +1,5 @@
 // A reader of a section in memory, with offsets of u32.
-ghost use Rattle.std.specs.Prelude.{ℕ, ◌+◌, ◌-◌, ◌<◌, ◌≤◌, ◌^◌, min, ◌≡◌, ◌&&◌, leb, ltb, length, take, drop};
+ghost use Rattle.std.specs.Prelude.{ℕ, ◌+◌, ◌-◌, ◌<◌, ◌≤◌, ◌^◌, min, ◌≡◌, ◌&&◌, length, take, drop, nat_le, nat_lt};
 ghost use Rattle.readers.specs.Links.{outcome_is, is_big};
 ghost use Rattle.readers.specs.Sections.{part, id_of, opened, highest};
 ghost use Rattle.endian_reader.specs.Means.{reader_means};
@@ -26,7 +26,7 @@ impl<'a> EndianReader<'a> {
         base: u64,
         endian: RunTimeEndian,
     ) -> Result<EndianReader<'a>, Error>
-        ensures { outcome_is reader_means result ≡ opened (leb (base + length section.now) highest && ltb (length section.now) (2 ^ 32)) base section.now (is_big endian) }
+        ensures { outcome_is reader_means result ≡ opened (nat_le (base + length section.now) highest && nat_lt (length section.now) (2 ^ 32)) base section.now (is_big endian) }
     {
         let len = section.len();
         if len > 0xffff_ffff || len as u64 > u64::MAX - base {
