@@ -1,5 +1,5 @@
 // The section `.debug_aranges`: sets, each with a header and the tuples of one unit.
-ghost use Rattle.std.specs.Prelude.{◌≡◌, ℕ, length, if◌then◌else◌};
+ghost use Rattle.std.specs.Prelude.{◌≡◌, ℕ, length, if◌then◌else◌, ◌-◌, ◌%◌, ◌<◌};
 ghost use Rattle.readers.specs.Outcome.{fault_of};
 ghost use Rattle.readers.specs.Reading.{skipped, is_size};
 ghost use Rattle.readers.specs.Links.{Did, outcome_is, option_is, word_of};
@@ -228,11 +228,24 @@ fn header_length(format: Format) -> u32
 fn padding(format: Format, address_size: u8) -> u32
     ensures { result ≡ padded (word_of format) address_size }
 {
-    let tuple_length = 2 * (address_size as u32);
-    if tuple_length == 0 {
-        return 0;
+    let length = header_length(format);
+    // one division by a constant in each case, which is none where code is compiled
+    match address_size {
+        0 => 0,
+        1 => to_multiple(length, 2),
+        2 => to_multiple(length, 4),
+        4 => to_multiple(length, 8),
+        8 => to_multiple(length, 16),
+        _ => to_multiple(length, 2 * (address_size as u32)),
     }
-    (tuple_length - header_length(format) % tuple_length) % tuple_length
+}
+
+// How many bytes there are from a place to the next that is a multiple of a size.
+fn to_multiple(place: u32, size: u32) -> u32
+    requires { 0 < size }
+    ensures { result ≡ (size - place % size) % size }
+{
+    (size - place % size) % size
 }
 
 /// An iterator over the tuples of a set.
