@@ -1,7 +1,7 @@
-// speed experiment
+// Sums over a section, for callers from C that time them. Unfinished: nothing but safety is promised of them.
 #![tactic(auto)]
 
-use aranges::{ArangeEntryIter, ArangeHeaderIter, DebugAranges};
+use aranges::DebugAranges;
 use endian_slice::EndianSlice;
 use leb128::read_uleb128;
 use readers::RunTimeEndian;
