@@ -22,13 +22,7 @@ pub fn ones_sized(size: u8) -> Result<u64, Error>
 pub fn min_tombstone(size: u8) -> Result<u64, Error>
     ensures { outcome_is (λ x. x) result ≡ tombstone size }
 {
-    match size {
-        1 => Ok(0xfe),
-        2 => Ok(0xfffe),
-        4 => Ok(0xffff_fffe),
-        8 => Ok(u64::MAX - 1),
-        _ => Err(Error::UnsupportedAddressSize(size)),
-    }
+    Ok(ones_sized(size)? - 1)
 }
 
 /// An address plus a length, which must be an address of the size too.

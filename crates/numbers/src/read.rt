@@ -1,7 +1,7 @@
 // Integers of a fixed width, words, initial lengths and address sizes: what a reader's trait would give with a body.
-ghost use Rattle.std.specs.Prelude.{◌≡◌, ℕ, length, ◌==◌};
-ghost use Rattle.readers.specs.Reading.{Meaning, fixed, word, sized, sized_word};
-ghost use Rattle.readers.specs.Links.{Did, word_of};
+ghost use Rattle.std.specs.Prelude.{◌≡◌, ℕ, ◌≤◌, length, ◌==◌};
+ghost use Rattle.readers.specs.Reading.{Meaning, little, fixed, word, sized, sized_or, sized_word};
+ghost use Rattle.readers.specs.Links.{Did, fault_is, word_of};
 ghost use Rattle.numbers.specs.Numbers.{signed, uint, initial, initial_is, size_of_addresses};
 
 use readers::{Error, Format, Reader, ReaderOffset, RunTimeEndian};
@@ -13,49 +13,46 @@ pub fn is_empty<R: Reader>(reader: &R) -> bool
     reader.len().into_u64() == 0
 }
 
+// The bytes of a number, the lowest first.
+fn read_array<const N: usize, R: Reader>(reader: &mut R) -> Result<[u8; N], Error>
+    requires { N ≤ 8 }
+    ensures { Did little result (R.Reader.means reader.new) (fixed N (R.Reader.means reader.old)) }
+{
+    let mut bytes = [0u8; N];
+    reader.read_slice(&mut bytes)?;
+    if reader.endian() == RunTimeEndian::Big {
+        bytes.reverse();
+    }
+    Ok(bytes)
+}
+
 /// An unsigned number of one byte.
 pub fn read_u8<R: Reader>(reader: &mut R) -> Result<u8, Error>
     ensures { Did (λ x. x) result (R.Reader.means reader.new) (fixed 1 (R.Reader.means reader.old)) }
 {
-    let mut bytes = [0u8; 1];
-    reader.read_slice(&mut bytes)?;
-    Ok(bytes[0])
+    let [byte] = read_array::<1, R>(reader)?;
+    Ok(byte)
 }
 
 /// An unsigned number of two bytes.
 pub fn read_u16<R: Reader>(reader: &mut R) -> Result<u16, Error>
     ensures { Did (λ x. x) result (R.Reader.means reader.new) (fixed 2 (R.Reader.means reader.old)) }
 {
-    let mut bytes = [0u8; 2];
-    reader.read_slice(&mut bytes)?;
-    Ok(match reader.endian() {
-        RunTimeEndian::Little => u16::from_le_bytes(bytes),
-        RunTimeEndian::Big => u16::from_be_bytes(bytes),
-    })
+    Ok(u16::from_le_bytes(read_array(reader)?))
 }
 
 /// An unsigned number of four bytes.
 pub fn read_u32<R: Reader>(reader: &mut R) -> Result<u32, Error>
     ensures { Did (λ x. x) result (R.Reader.means reader.new) (fixed 4 (R.Reader.means reader.old)) }
 {
-    let mut bytes = [0u8; 4];
-    reader.read_slice(&mut bytes)?;
-    Ok(match reader.endian() {
-        RunTimeEndian::Little => u32::from_le_bytes(bytes),
-        RunTimeEndian::Big => u32::from_be_bytes(bytes),
-    })
+    Ok(u32::from_le_bytes(read_array(reader)?))
 }
 
 /// An unsigned number of eight bytes.
 pub fn read_u64<R: Reader>(reader: &mut R) -> Result<u64, Error>
     ensures { Did (λ x. x) result (R.Reader.means reader.new) (fixed 8 (R.Reader.means reader.old)) }
 {
-    let mut bytes = [0u8; 8];
-    reader.read_slice(&mut bytes)?;
-    Ok(match reader.endian() {
-        RunTimeEndian::Little => u64::from_le_bytes(bytes),
-        RunTimeEndian::Big => u64::from_be_bytes(bytes),
-    })
+    Ok(u64::from_le_bytes(read_array(reader)?))
 }
 
 /// A signed number of one byte.
@@ -147,29 +144,34 @@ pub fn read_address_size<R: Reader>(reader: &mut R) -> Result<u8, Error>
     }
 }
 
-/// The address that stands in the bytes: what `read_address` answers where there is no relocation.
-pub fn read_plain_address<R: Reader>(reader: &mut R, address_size: u8) -> Result<u64, Error>
-    ensures { Did (λ x. x) result (R.Reader.means reader.new) (sized 4 address_size (R.Reader.means reader.old)) }
+// A number of 1, 2, 4 or 8 bytes; another size is refused with the error that is given.
+fn read_sized<R: Reader>(reader: &mut R, size: u8, unsupported: Error) -> Result<u64, Error>
+    ensures { Did (λ x. x) result (R.Reader.means reader.new) (sized_or (fault_is unsupported) size (R.Reader.means reader.old)) }
 {
-    match address_size {
+    match size {
         1 => Ok(read_u8(reader)? as u64),
         2 => Ok(read_u16(reader)? as u64),
         4 => Ok(read_u32(reader)? as u64),
         8 => read_u64(reader),
-        _ => Err(Error::UnsupportedAddressSize(address_size)),
+        _ => Err(unsupported),
     }
+}
+
+/// The address that stands in the bytes: what `read_address` answers where there is no relocation.
+pub fn read_plain_address<R: Reader>(reader: &mut R, address_size: u8) -> Result<u64, Error>
+    ensures { Did (λ x. x) result (R.Reader.means reader.new) (sized 4 address_size (R.Reader.means reader.old)) }
+{
+    read_sized(
+        reader,
+        address_size,
+        Error::UnsupportedAddressSize(address_size),
+    )
 }
 
 /// The offset that stands in the bytes: what `read_sized_offset` answers where there is no relocation.
 pub fn read_plain_sized_offset<R: Reader>(reader: &mut R, size: u8) -> Result<R::Offset, Error>
     ensures { Did R.Offset.ReaderOffset.number result (R.Reader.means reader.new) (sized_word R.Offset.ReaderOffset.limit size (R.Reader.means reader.old)) }
 {
-    let value = match size {
-        1 => read_u8(reader)? as u64,
-        2 => read_u16(reader)? as u64,
-        4 => read_u32(reader)? as u64,
-        8 => read_u64(reader)?,
-        _ => return Err(Error::UnsupportedOffsetSize(size)),
-    };
+    let value = read_sized(reader, size, Error::UnsupportedOffsetSize(size))?;
     R::Offset::from_u64(value)
 }

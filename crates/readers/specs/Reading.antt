@@ -1,6 +1,7 @@
 -- What a reader means, and for each call the outcome and the reader after it.
 use Rattle.std.specs.Prelude.{ℕ, ◌+◌, ◌-◌, ◌*◌, Bool, cond, ◌&&◌, ◌||◌, List, [], ◌∷◌, reverse, length, take, drop, Some, None, Option, ◌==◌, nat_le, nat_lt}
-use Rattle.readers.specs.Outcome.{Outcome, answer, fault, fault_of}
+use Rattle.std.specs.List as list
+use Rattle.readers.specs.Outcome.{Outcome, Fault, answer, fault, fault_of, numbered}
 
 -- A reader: the id of its next byte, the bytes left, whether the highest byte of a number comes first, and its
 -- relocation, which says of the id and the value of an address or an offset what it becomes.
@@ -66,17 +67,9 @@ split_off n m = taking n m (gives (front n m) (past n m))
 abbrev pub copied : ℕ → Meaning → Step (List ℕ)
 copied n m = taking n m (gives (take n m.rest) (past n m))
 
--- the number of bytes in front of the first b, if there is one
-abbrev pub one_more : Option ℕ → Option ℕ
-one_more (Some n) = Some (n + 1)
-one_more None = None
-
-abbrev pub before : ℕ → List ℕ → Option ℕ
-before b [] = None
-before b (x ∷ xs) = cond (x == b) (Some 0) (one_more (before b xs))
-
+-- the number of bytes in front of the first b, which is refused where there is none
 abbrev pub position : ℕ → Meaning → Outcome ℕ
-position b m = elim (before b m.rest) [ Some n ↦ answer n | None ↦ fault_of 1 m.id ]
+position b m = elim (list.position (λ x. x == b) m.rest) [ Some n ↦ answer n | None ↦ fault_of 1 m.id ]
 
 -- the distance of an id from the reader's own, where it lies in the reader's span with both ends
 abbrev pub distance : Meaning → ℕ → Option ℕ
@@ -104,9 +97,13 @@ fixed n m = taking n m (gives (spelt m.big (take n m.rest)) (past n m))
 abbrev pub is_size : ℕ → Bool
 is_size s = s == 1 || (s == 2 || (s == 4 || s == 8))
 
--- an unsigned number of 1, 2, 4 or 8 bytes; another size has the fault numbered f
+-- an unsigned number of 1, 2, 4 or 8 bytes; another size has the fault f
+abbrev pub sized_or : Fault → ℕ → Meaning → Step ℕ
+sized_or f s m = cond (is_size s) (fixed s m) (record { outcome = fault f; after = m })
+
+-- the same, where the fault has the number f and tells the size
 abbrev pub sized : ℕ → ℕ → Meaning → Step ℕ
-sized f s m = cond (is_size s) (fixed s m) (refuses f s m)
+sized f s m = sized_or (numbered f s) s m
 
 -- a number that an offset below the limit can hold
 abbrev pub fitting : ℕ → ℕ → Outcome ℕ

@@ -21,7 +21,10 @@ pub trait ReaderOffset: Copy {
     ghost limit: { ℕ };
 
     fn from_u8(offset: u8) -> Self
-        ensures { number result ≡ offset };
+        ensures { number result ≡ offset }
+    {
+        Self::from_u32(offset as u32)
+    }
 
     fn from_u32(offset: u32) -> Self
         ensures { number result ≡ offset };
@@ -39,19 +42,12 @@ impl ReaderOffset for u32 {
 
     ghost limit = { 2 ^ 32 };
 
-    fn from_u8(offset: u8) -> u32 {
-        offset as u32
-    }
-
     fn from_u32(offset: u32) -> u32 {
         offset
     }
 
     fn from_u64(offset: u64) -> Result<u32, Error> {
-        if offset > 0xffff_ffff {
-            return Err(Error::UnsupportedOffset);
-        }
-        Ok(offset as u32)
+        u32::try_from(offset).map_err(|_| Error::UnsupportedOffset)
     }
 
     fn into_u64(self) -> u64 {
@@ -63,10 +59,6 @@ impl ReaderOffset for u64 {
     ghost number = { λ x. x };
 
     ghost limit = { 2 ^ 64 };
-
-    fn from_u8(offset: u8) -> u64 {
-        offset as u64
-    }
 
     fn from_u32(offset: u32) -> u64 {
         offset as u64
@@ -85,10 +77,6 @@ impl ReaderOffset for usize {
     ghost number = { λ x. x };
 
     ghost limit = { 2 ^ 64 };
-
-    fn from_u8(offset: u8) -> usize {
-        offset as usize
-    }
 
     fn from_u32(offset: u32) -> usize {
         offset as usize
