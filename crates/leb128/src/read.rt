@@ -1,5 +1,5 @@
 // Reads of LEB128 numbers, written once for every reader.
-ghost use Rattle.std.specs.Prelude.{◌≡◌, ◌*◌, ◌^◌, ◌<◌, ◌≤◌, pos, ◌-ℤ◌};
+ghost use Rattle.std.specs.Prelude.{◌≡◌, ◌+◌, ◌*◌, ◌%◌, ◌^◌, ◌<◌, ◌≤◌, pos, ◌-ℤ◌};
 ghost use Rattle.readers.specs.Reading.{Meaning};
 ghost use Rattle.readers.specs.Links.{Did};
 ghost use Rattle.leb128.specs.Leb128.{unsigned, unsigned_32, unsigned_16, signed, passed};
@@ -19,6 +19,17 @@ pub fn skip_leb128<R: Reader>(reader: &mut R) -> Result<(), Error>
     }
 }
 
+// the bits of i bytes, and above them the seven of the next
+#[tactic(auto, using(crate::proofs::Spelling::seven_fit))]
+fn with_group(bits: u64, byte: u8, i: u32) -> u64
+    requires few { i < 9 }
+    requires fit { bits < 2 ^ (7 * i) }
+    ensures value { result ≡ bits + 2 ^ (7 * i) * (byte % 128) }
+    ensures fits { result < 2 ^ (7 * (i + 1)) }
+{
+    bits | ((byte & 0x7f) as u64) << (7 * i)
+}
+
 /// An unsigned number of at most ten bytes.
 pub fn read_uleb128<R: Reader>(reader: &mut R) -> Result<u64, Error>
     ensures { Did (λ x. x) result (R.Reader.means reader.new) (unsigned (R.Reader.means reader.old)) }
@@ -26,7 +37,7 @@ pub fn read_uleb128<R: Reader>(reader: &mut R) -> Result<u64, Error>
     let mut result = 0u64;
     for i in 0..9u32 {
         let byte = read_u8(reader)?;
-        result |= ((byte & 0x7f) as u64) << (7 * i);
+        result = with_group(result, byte, i);
         if byte < 0x80 {
             return Ok(result);
         }
@@ -71,7 +82,9 @@ pub fn read_uleb128_u16<R: Reader>(reader: &mut R) -> Result<u16, Error>
 
 // `value` less twice `half`; twice `half` may be more than an i64 holds.
 fn less_twice(value: u64, half: u64) -> i64
-    requires { (half < 2 ^ 63) × ((half ≤ value) × (value < 2 * half)) }
+    requires half { half < 2 ^ 63 }
+    requires least { half ≤ value }
+    requires below { value < 2 * half }
     ensures { result ≡ pos value -ℤ pos (2 * half) }
 {
     (value - half) as i64 - half as i64
@@ -84,7 +97,7 @@ pub fn read_sleb128<R: Reader>(reader: &mut R) -> Result<i64, Error>
     let mut result = 0u64;
     for i in 0..9u32 {
         let byte = read_u8(reader)?;
-        result |= ((byte & 0x7f) as u64) << (7 * i);
+        result = with_group(result, byte, i);
         if byte < 0x80 {
             if byte < 0x40 {
                 return Ok(result as i64);

@@ -3,12 +3,22 @@ use Rattle.std.specs.Prelude.{ℕ, ◌+◌, ◌-◌, ◌%◌, ◌^◌, cond, Lis
 use Rattle.readers.specs.Outcome.{Outcome, answer, fault, fault_of}
 use Rattle.readers.specs.Reading.{Meaning, fitting}
 use Rattle.relocate.specs.declared.policy.Relocation.{Relocation}
+use Rattle.relocate.specs.declared.policy.RelocationKind.{RelocationKind}
+use Rattle.relocate.specs.declared.policy.RelocationKind.TheVariants.{Add, Replace, Unknown}
+
+-- the kind that a number stands for
+abbrev pub kind_of : ℕ → RelocationKind
+kind_of k = cond (k == 0) Add (cond (k == 1) Replace Unknown)
+
+-- what a kind and its amount make of a value that was read at an offset
+abbrev pub by_kind : RelocationKind → ℕ → ℕ → ℕ → Outcome ℕ
+by_kind Add a o v = answer ((v + a) % 2 ^ 64)
+by_kind Replace a o v = answer a
+by_kind Unknown a o v = fault_of 13 o
 
 -- what one record makes of a value that was read at its offset
 abbrev pub by_record : Relocation → ℕ → ℕ → Outcome ℕ
-by_record r o v =
-    cond (r.kind == 0) (answer ((v + r.amount) % 2 ^ 64))
-    (cond (r.kind == 1) (answer r.amount) (fault_of 13 o))
+by_record r = by_kind r.kind r.amount
 
 -- what a table makes of a value: the earliest record with its offset decides, and where there is none the value stays
 abbrev pub by_table : List Relocation → ℕ → ℕ → Outcome ℕ

@@ -4,5 +4,5 @@
 mod policy;
 mod relocate;
 
-pub use policy::{NoRelocation, Relocation, RelocationTable};
+pub use policy::{NoRelocation, Relocation, RelocationKind, RelocationTable};
 pub use relocate::{Relocate, RelocateReader};

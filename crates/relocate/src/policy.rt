@@ -1,8 +1,8 @@
 // Two policies: one changes nothing, the other goes by a table of records.
-ghost use Rattle.std.specs.Prelude.{◌≡◌};
+ghost use Rattle.std.specs.Prelude.{◌≡◌, ◌==◌, option_map, find};
 ghost use Rattle.readers.specs.Reading.{unmoved};
 ghost use Rattle.readers.specs.Links.{outcome_is};
-ghost use Rattle.relocate.specs.Relocating.{by_table};
+ghost use Rattle.relocate.specs.Relocating.{by_table, kind_of};
 
 use crate::relocate::Relocate;
 use readers::Error;
@@ -11,6 +11,7 @@ use readers::Error;
 #[derive(Clone, Copy)]
 pub struct NoRelocation;
 
+// gimli's trait has both methods, also where a policy treats addresses and offsets alike
 impl Relocate for NoRelocation {
     ghost addresses = { λ _. unmoved };
 
@@ -25,11 +26,34 @@ impl Relocate for NoRelocation {
     }
 }
 
-/// One record of a table: kind 0 adds the amount modulo 2^64, kind 1 puts it in the value's place, others are refused.
+/// What a record of a table does with a value.
+#[derive(Clone, Copy, PartialEq, Eq, Debug)]
+pub enum RelocationKind {
+    /// Adds the amount modulo 2^64.
+    Add,
+    /// Puts the amount in the value's place.
+    Replace,
+    /// Any other kind, which is refused.
+    Unknown,
+}
+
+impl From<u8> for RelocationKind {
+    ghost from_gives = { λ number kind. kind ≡ kind_of number };
+
+    fn from(number: u8) -> RelocationKind {
+        match number {
+            0 => RelocationKind::Add,
+            1 => RelocationKind::Replace,
+            _ => RelocationKind::Unknown,
+        }
+    }
+}
+
+/// One record of a table: the amount by which the value at an offset is changed, and how.
 #[derive(Clone, Copy)]
 pub struct Relocation {
     pub offset: u64,
-    pub kind: u8,
+    pub kind: RelocationKind,
     pub amount: u64,
 }
 
@@ -46,23 +70,30 @@ impl<'a> RelocationTable<'a> {
         RelocationTable { records }
     }
 
+    // the earliest record with the offset
+    fn record_at(&self, offset: u64) -> Option<&Relocation>
+        ensures { option_map (λ r. r.now) result ≡ find (λ r. r.offset == offset) self.now.records.now }
+    {
+        self.records.iter().find(|record| record.offset == offset)
+    }
+
     // what the table says of a value; addresses and offsets are treated alike
+    #[tactic(auto, using(crate::proofs::Records::by_find))]
     fn relocate(&self, offset: u64, value: u64) -> Result<u64, Error>
         ensures { outcome_is (λ x. x) result ≡ by_table self.now.records.now offset value }
     {
-        for record in self.records {
-            if record.offset == offset {
-                return match record.kind {
-                    0 => Ok(value.wrapping_add(record.amount)),
-                    1 => Ok(record.amount),
-                    _ => Err(Error::RelocationRefused(offset)),
-                };
-            }
+        let Some(record) = self.record_at(offset) else {
+            return Ok(value);
+        };
+        match record.kind {
+            RelocationKind::Add => Ok(value.wrapping_add(record.amount)),
+            RelocationKind::Replace => Ok(record.amount),
+            RelocationKind::Unknown => Err(Error::RelocationRefused(offset)),
         }
-        Ok(value)
     }
 }
 
+// gimli's trait has both methods, also where a policy treats addresses and offsets alike
 impl Relocate for RelocationTable<'_> {
     ghost addresses = { λ t. by_table t.records.now };
 

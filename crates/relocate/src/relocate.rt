@@ -85,6 +85,7 @@ impl<R: Reader, T: Relocate> Reader for RelocateReader<R, T> {
         self.reader.offset_id()
     }
 
+    // by hand: a second reader of equal meaning is a promise of the trait Reader, which Clone does not make
     fn clone(&self) -> Self {
         RelocateReader {
             reader: self.reader.clone(),
@@ -132,18 +133,21 @@ impl<R: Reader, T: Relocate> Reader for RelocateReader<R, T> {
 }
 
 impl<R: AddressReader, T: Relocate> AddressReader for RelocateReader<R, T> {
+    #[tactic(auto, using(crate::proofs::Layers::address_layered))]
     fn read_address(&mut self, address_size: u8) -> Result<u64, Error> {
         let offset = self.offset();
         let value = self.reader.read_address(address_size)?;
         self.relocate.relocate_address(offset, value)
     }
 
+    #[tactic(auto, using(crate::proofs::Layers::offset_layered))]
     fn read_offset(&mut self, format: Format) -> Result<R::Offset, Error> {
         let offset = self.offset();
         let value = self.reader.read_offset(format)?;
         self.relocate_offset(offset, value)
     }
 
+    #[tactic(auto, using(crate::proofs::Layers::sized_offset_layered))]
     fn read_sized_offset(&mut self, size: u8) -> Result<R::Offset, Error> {
         let offset = self.offset();
         let value = self.reader.read_sized_offset(size)?;

@@ -1,11 +1,10 @@
 use Rattle.std.proofs.Common.{◌≡◌, ℕ, ◌+◌, ◌*◌, ◌%◌, ◌^◌, ◌<◌, ◌≤◌, [], pos, negsuc, ◌+ℤ◌, ◌-ℤ◌, sym, ap, ◌∙◌, ap₂, le_refl, arith, pow_mono, w64, SFits, to_z, of_z, rules}
-use lib.Bits.{bit_and, bit_or}
 use Rattle.std.proofs.lemmas.Int.{ints, to_z_pos, to_z-of_z}
 use Rattle.std.proofs.lemmas.Nat.{mul-le}
 use Rattle.readers.specs.Reading.{gives}
 use Rattle.leb128.specs.Leb128.{more}
 use Rattle.readers.proofs.Steps.{gave, refused, exits}
-use Rattle.leb128.proofs.Spelling.{left, seven_more, seven_fit}
+use Rattle.leb128.proofs.Spelling.{left}
 use Rattle.leb128.proofs.Signed.{ends, fails, start, goes_on, ends_plain, ends_signed, half_is, tenth_plain, tenth_signed, tenth_refuses}
 use Rattle.leb128.proofs.read.read_sleb128.Goals as goal
 
@@ -18,14 +17,12 @@ returns-in_err-byte g c =
     (sym c.loop-i.invariant.0 ∙ fails c.loop-i.i c.loop-i.result _ _ _ (omega arith) c.in_err-byte.ensures)
 
 pub loop-i-preserved : goal.loop-i-preserved
-loop-i-preserved g c =
-    let k : 7 * c.loop-i.i + 7 ≤ 64 = omega arith in
-    let h : c.loop-i.i < 9 = omega arith in (
-      ap (λ v. left more [] ends (c.loop-i.i + 1) v (g.R.Reader.means c.read_u8.new.reader)) (seven_more c.loop-i.result c.in_ok-byte.byte (7 * c.loop-i.i) 64 c.loop-i.invariant.1 k)
-          ∙ sym (goes_on c.loop-i.i c.loop-i.result _ _ c.in_ok-byte.byte h c.in_ok-byte.ensures c.if-byte-lt128.false)
-          ∙ c.loop-i.invariant.0,
-      seven_fit c.loop-i.result c.in_ok-byte.byte c.loop-i.i c.loop-i.invariant.1 h,
-    )
+loop-i-preserved g c = (
+  ap (λ v. left more [] ends (c.loop-i.i + 1) v (g.R.Reader.means c.read_u8.new.reader)) c.with_group-result.ensures.value
+      ∙ sym (goes_on c.loop-i.i c.loop-i.result _ _ c.in_ok-byte.byte (omega arith) c.in_ok-byte.ensures c.if-byte-lt128.false)
+      ∙ c.loop-i.invariant.0,
+  c.with_group-result.ensures.fits,
+)
 
 pub returns-in_err-last : goal.returns-in_err-last
 returns-in_err-last g c =
@@ -33,31 +30,25 @@ returns-in_err-last g c =
     (sym c.loop-i.invariant.0 ∙ fails c.loop-i.i c.loop-i.result _ _ _ (omega arith) c.in_err-last.ensures)
 
 -- what the bits come to with one byte more
-module _ (r b i : ℕ) (fit : r < 2 ^ (7 * i)) (h : i < 9) where
-  abbrev with_byte : ℕ
-  with_byte = bit_or r ((bit_and b 127 * 2 ^ (7 * i)) % 2 ^ 64)
-
-  with-byte-is : with_byte ≡ r + 2 ^ (7 * i) * (b % 128)
-  with-byte-is = seven_more r b (7 * i) 64 fit (omega arith)
-
-  below_next : with_byte < 2 ^ (7 * i) * 128
+module _ (r b i v : ℕ) (h : i < 9) (e : v ≡ r + 2 ^ (7 * i) * (b % 128)) (fit : r < 2 ^ (7 * i)) where
+  below_next : v < 2 ^ (7 * i) * 128
   below_next =
       let small : b % 128 ≤ 127 = omega arith in
-      omega (arith, with-byte-is, mul-le (2 ^ (7 * i)) (b % 128) (2 ^ (7 * i)) 127 (le_refl (2 ^ (7 * i))) small)
+      omega (arith, mul-le (2 ^ (7 * i)) (b % 128) (2 ^ (7 * i)) 127 (le_refl (2 ^ (7 * i))) small)
 
-  with-byte-fits : with_byte < 2 ^ 63
-  with-byte-fits =
+  value-fits : v < 2 ^ 63
+  value-fits =
       let p : 2 ^ (7 * i) ≤ 2 ^ 56 = pow_mono (let s : 7 * i ≤ 56 = omega arith in s) in
       omega (arith, below_next)
 
-  above_half : b < 128 → 64 ≤ b → 2 ^ (7 * i) * 64 ≤ with_byte
+  above_half : b < 128 → 64 ≤ b → 2 ^ (7 * i) * 64 ≤ v
   above_half f k =
       let large : 64 ≤ b % 128 = omega arith in
-      omega (arith, with-byte-is, mul-le (2 ^ (7 * i)) 64 (2 ^ (7 * i)) (b % 128) (le_refl (2 ^ (7 * i))) large)
+      omega (arith, mul-le (2 ^ (7 * i)) 64 (2 ^ (7 * i)) (b % 128) (le_refl (2 ^ (7 * i))) large)
 
-pub overflow_cast-result-then-byte-lt64 : goal.overflow_cast-result-then-byte-lt64
-overflow_cast-result-then-byte-lt64 g c =
-    let h = with-byte-fits c.loop-i.result c.in_ok-byte.byte c.loop-i.i c.loop-i.invariant.1 (omega arith) in
+pub overflow_cast-result : goal.overflow_cast-result
+overflow_cast-result g c =
+    let h = value-fits c.loop-i.result c.in_ok-byte.byte c.loop-i.i c.with_group-result.result (omega arith) c.with_group-result.ensures.value c.loop-i.invariant.1 in
     search rules
 
 pub returns-then-byte-lt64 : goal.returns-then-byte-lt64
@@ -66,11 +57,12 @@ returns-then-byte-lt64 g c =
     let b = c.in_ok-byte.byte in
     let i = c.loop-i.i in
     let n : c.loop-i.i < 9 = omega arith in
+    let e = c.with_group-result.ensures.value in
     gave (λ x. x) _ _ _
     (sym c.loop-i.invariant.0
     ∙ ends_plain i r _ _ b n c.in_ok-byte.ensures c.if-byte-lt128.true c.if-byte-lt64.true
     ∙ ap (λ v. gives v (g.R.Reader.means c.read_u8.new.reader))
-    (ap pos (sym (with-byte-is r b i c.loop-i.invariant.1 n)) ∙ sym (to_z_pos w64 (with_byte r b i c.loop-i.invariant.1 n) (with-byte-fits r b i c.loop-i.invariant.1 n))))
+    (ap pos (sym e) ∙ sym (to_z_pos w64 c.with_group-result.result (value-fits r b i c.with_group-result.result n e c.loop-i.invariant.1))))
 
 pub less_twice-requires : goal.less_twice-requires
 less_twice-requires g c =
@@ -78,10 +70,11 @@ less_twice-requires g c =
     let b = c.in_ok-byte.byte in
     let i = c.loop-i.i in
     let n : c.loop-i.i < 9 = omega arith in
-    let half = half_is i n in
-    let low = below_next r b i c.loop-i.invariant.1 n in
-    let high = above_half r b i c.loop-i.invariant.1 n c.if-byte-lt128.true c.if-byte-lt64.false in
-    (omega arith, (omega arith, omega arith))
+    let e = c.with_group-result.ensures.value in
+    let twice = half_is i n in
+    let low = below_next r b i c.with_group-result.result n e c.loop-i.invariant.1 in
+    let high = above_half r b i c.with_group-result.result n e c.loop-i.invariant.1 c.if-byte-lt128.true c.if-byte-lt64.false in
+    record { half = omega arith; least = omega arith; below = omega arith }
 
 pub returns-then-byte-lt128 : goal.returns-then-byte-lt128
 returns-then-byte-lt128 g c =
@@ -96,7 +89,7 @@ returns-then-byte-lt128 g c =
     (sym c.loop-i.invariant.0
     ∙ ends_signed i r _ _ b n c.in_ok-byte.ensures c.if-byte-lt128.true c.if-byte-lt64.false
     ∙ ap (λ v. gives v (g.R.Reader.means c.read_u8.new.reader))
-    (ap₂ (λ x y. pos x -ℤ pos y) (sym (with-byte-is r b i c.loop-i.invariant.1 n)) twice ∙ sym c.less_twice.ensures ∙ sym (to_z-of_z w64 c.less_twice.result f)))
+    (ap₂ (λ x y. pos x -ℤ pos y) (sym c.with_group-result.ensures.value) twice ∙ sym c.less_twice.ensures ∙ sym (to_z-of_z w64 c.less_twice.result f)))
 
 lowest : (v : ℕ) → v < 2 ^ 63 → pos v -ℤ pos (2 ^ 63) ≡ to_z w64 (of_z w64 (negsuc 9223372036854775807 +ℤ to_z w64 v))
 lowest v h = omega (arith, ints)

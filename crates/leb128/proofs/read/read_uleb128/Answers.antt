@@ -1,8 +1,8 @@
-use Rattle.std.proofs.Common.{◌≡◌, ◌+◌, ◌*◌, ◌^◌, ◌<◌, ◌≤◌, [], sym, ap, ◌∙◌, arith}
+use Rattle.std.proofs.Common.{◌≡◌, ◌+◌, ◌*◌, ◌^◌, [], sym, ap, ◌∙◌, arith}
 use Rattle.readers.specs.Reading.{gives}
 use Rattle.leb128.specs.Leb128.{more}
 use Rattle.readers.proofs.Steps.{gave, refused, exits}
-use Rattle.leb128.proofs.Spelling.{left, seven_more, seven_fit}
+use Rattle.leb128.proofs.Spelling.{left}
 use Rattle.leb128.proofs.Unsigned.{ends, fails, start, goes_on, ends_here, tenth_answers, tenth_refuses}
 use Rattle.leb128.proofs.read.read_uleb128.Goals as goal
 
@@ -16,21 +16,18 @@ returns-in_err-byte g c =
 
 pub returns-then-byte-lt128 : goal.returns-then-byte-lt128
 returns-then-byte-lt128 g c =
-    let k : 7 * c.loop-i.i + 7 ≤ 64 = omega arith in
     gave (λ x. x) _ _ _
     (sym c.loop-i.invariant.0
     ∙ ends_here c.loop-i.i c.loop-i.result _ _ c.in_ok-byte.byte (omega arith) c.in_ok-byte.ensures c.if-byte-lt128.true
-    ∙ ap (λ v. gives v (g.R.Reader.means c.read_u8.new.reader)) (sym (seven_more c.loop-i.result c.in_ok-byte.byte (7 * c.loop-i.i) 64 c.loop-i.invariant.1 k)))
+    ∙ ap (λ v. gives v (g.R.Reader.means c.read_u8.new.reader)) (sym c.with_group-result.ensures.value))
 
 pub loop-i-preserved : goal.loop-i-preserved
-loop-i-preserved g c =
-    let k : 7 * c.loop-i.i + 7 ≤ 64 = omega arith in
-    let h : c.loop-i.i < 9 = omega arith in (
-      ap (λ v. left more [] ends (c.loop-i.i + 1) v (g.R.Reader.means c.read_u8.new.reader)) (seven_more c.loop-i.result c.in_ok-byte.byte (7 * c.loop-i.i) 64 c.loop-i.invariant.1 k)
-          ∙ sym (goes_on c.loop-i.i c.loop-i.result _ _ c.in_ok-byte.byte h c.in_ok-byte.ensures c.if-byte-lt128.false)
-          ∙ c.loop-i.invariant.0,
-      seven_fit c.loop-i.result c.in_ok-byte.byte c.loop-i.i c.loop-i.invariant.1 h,
-    )
+loop-i-preserved g c = (
+  ap (λ v. left more [] ends (c.loop-i.i + 1) v (g.R.Reader.means c.read_u8.new.reader)) c.with_group-result.ensures.value
+      ∙ sym (goes_on c.loop-i.i c.loop-i.result _ _ c.in_ok-byte.byte (omega arith) c.in_ok-byte.ensures c.if-byte-lt128.false)
+      ∙ c.loop-i.invariant.0,
+  c.with_group-result.ensures.fits,
+)
 
 pub returns-in_err-last : goal.returns-in_err-last
 returns-in_err-last g c =
