@@ -4,7 +4,7 @@
 use aranges::{ArangeHeader, DebugAranges};
 use endian_slice::EndianSlice;
 use leb128::read_uleb128;
-use readers::{AddressReader, Error, Reader, ReaderOffset, RunTimeEndian};
+use readers::{AddressReader, Error, Reader, RunTimeEndian};
 use walk::lookup_address;
 
 #[unsafe(no_mangle)]
@@ -19,14 +19,17 @@ pub extern "C" fn mallethill_lookup(section: &[u8], big: bool, address: u64) -> 
 #[unsafe(no_mangle)]
 pub extern "C" fn mallethill_sum(section: &[u8], big: bool, out: &mut u64) {
     if let Ok(reader) = open(section, big) {
-        *out = sum_of_sets(reader);
+        *out = sum_of_headers(reader, |header| sum_of_tuples(header).wrapping_add(1));
     }
 }
 
 #[unsafe(no_mangle)]
 pub extern "C" fn mallethill_headers(section: &[u8], big: bool, out: &mut u64) {
     if let Ok(reader) = open(section, big) {
-        *out = sum_of_headers(reader);
+        *out = sum_of_headers(reader, |header| {
+            let info_offset = header.debug_info_offset().0;
+            header.offset().0.wrapping_add(info_offset as u64)
+        });
     }
 }
 
@@ -58,13 +61,15 @@ fn look_up<R: AddressReader>(reader: R, address: u64) -> Result<u64, Error> {
     })
 }
 
-// The sets and what their tuples tell, up to the first header that is refused.
-fn sum_of_sets<R: AddressReader>(reader: R) -> u64 {
+// What `value` makes of the headers, up to the first that is refused.
+fn sum_of_headers<R: AddressReader, F: Fn(&ArangeHeader<R>) -> u64>(reader: R, value: F) -> u64
+    requires { F.IsAlwaysCallable value }
+{
     let section = DebugAranges::new(reader);
     let mut headers = section.headers();
     let mut sum = 0u64;
     while let Ok(Some(header)) = headers.next() {
-        sum = sum.wrapping_add(1).wrapping_add(sum_of_tuples(&header));
+        sum = sum.wrapping_add(value(&header));
     }
     sum
 }
@@ -78,19 +83,6 @@ fn sum_of_tuples<R: AddressReader>(header: &ArangeHeader<R>) -> u64 {
             Ok(entry) => entry.length().wrapping_add(entry.address()),
             Err(_) => 1,
         });
-    }
-    sum
-}
-
-// The places and the info offsets of the headers, up to the first that is refused.
-fn sum_of_headers<R: AddressReader>(reader: R) -> u64 {
-    let section = DebugAranges::new(reader);
-    let mut headers = section.headers();
-    let mut sum = 0u64;
-    while let Ok(Some(header)) = headers.next() {
-        sum = sum
-            .wrapping_add(header.offset().0)
-            .wrapping_add(header.debug_info_offset().0.into_u64());
     }
     sum
 }
