@@ -2,7 +2,7 @@
 #![tactic(auto)]
 
 ghost use Rattle.std.specs.Prelude.{◌≡◌, ℕ, ◌<◌, IfOk, string_bytes};
-ghost use Rattle.hex_digits.specs.Hex.{value, digit as shown, decoded, encoded};
+ghost use Rattle.hex_digits.specs.Hex.{value, decoded, encoded};
 
 use std::alloc::{AllocError, Global};
 
@@ -10,13 +10,11 @@ use std::alloc::{AllocError, Global};
 pub fn decode(heap: Global, digits: &[u8]) -> Result<Vec<u8>, AllocError>
     ensures { IfOk result (λ v. v.items ≡ decoded digits.now) }
 {
-    let mut bytes = Vec::new(heap);
-    for i in 0..digits.len() / 2 {
-        let high = digit_value(digits[2 * i]);
-        let low = digit_value(digits[2 * i + 1]);
-        bytes.push(16 * high + low)?;
-    }
-    Ok(bytes)
+    let (pairs, _) = digits.as_chunks::<2>();
+    pairs
+        .iter()
+        .map(|[high, low]| 16 * digit_value(*high) + digit_value(*low))
+        .collect(heap)
 }
 
 fn digit_value(digit: u8) -> u8
@@ -36,19 +34,7 @@ pub fn encode(heap: Global, bytes: &[u8]) -> Result<String, AllocError>
 {
     let mut text = String::new(heap);
     for byte in bytes {
-        text.push(digit(*byte / 16))?;
-        text.push(digit(*byte % 16))?;
+        write!(text, "{byte:02x}")?;
     }
     Ok(text)
-}
-
-fn digit(value: u8) -> char
-    requires { value < 16 }
-    ensures { result ≡ shown value }
-{
-    if value < 10 {
-        (b'0' + value) as char
-    } else {
-        (b'a' + (value - 10)) as char
-    }
 }

@@ -1,21 +1,10 @@
--- What rangewalk writes: the name of a fault, and the line of an answer.
-use Rattle.std.specs.Prelude.{ℕ, ◌-◌, List, [], ◌∷◌, ◌++◌, Some, None, codes, decimal, Option, slice_index_or}
+-- What rangewalk writes: the line of an answer.
+use Rattle.std.specs.Prelude.{ℕ, List, [], ◌∷◌, ◌++◌, Some, None, codes, decimal, Option}
 use Rattle.readers.specs.Outcome.{Outcome, Fault, answer, fault}
+use Rattle.readers.specs.Names.{name_of}
 use Rattle.aranges.specs.Sets.{Header}
 use Rattle.aranges.specs.Tuples.{Kind, converted, raw, Told, found, failed, over}
 use Rattle.walk.specs.Events.{Looked, range, spoilt, missing, Event, header, entries, told, looked}
-
--- the names of the faults, in the order of their numbers, which begin with 1
-abbrev pub fault_names : List (List ℕ)
-fault_names =
-    codes "UnexpectedEof" ∷ codes "UnknownReservedLength" ∷ codes "UnknownVersion" ∷ codes "UnsupportedAddressSize"
-    ∷ codes "UnsupportedSegmentSize" ∷ codes "UnsupportedOffset" ∷ codes "UnsupportedOffsetSize" ∷ codes "BadUnsignedLeb128"
-    ∷ codes "BadSignedLeb128" ∷ codes "AddressOverflow" ∷ codes "SectionTooLong" ∷ codes "NothingOpen"
-    ∷ codes "RelocationRefused" ∷ codes "BadLength" ∷ []
-
--- the name of the fault with a number
-abbrev pub name_of : ℕ → List ℕ
-name_of n = slice_index_or fault_names (n - 1) []
 
 -- the end of a line: numbers in decimal, a space before each, and a newline
 abbrev pub ending : List ℕ → List ℕ

@@ -1,8 +1,10 @@
 // The faults of every call: a closed list of fourteen.
-ghost use Rattle.std.specs.Prelude.{◌≡◌};
+ghost use Rattle.std.specs.Prelude.{◌≡◌, Some};
 ghost use Rattle.readers.specs.Links.{fault_is};
+ghost use Rattle.readers.specs.Names.{name_of, fault_text};
 
 use crate::reader::ReaderOffsetId;
+use std::fmt;
 
 /// Why a call was refused.
 #[derive(Clone, Copy, PartialEq, Eq, Debug)]
@@ -38,6 +40,28 @@ pub enum Error {
 }
 
 impl Error {
+    /// The fault's name, as output lines write it.
+    pub fn name(self) -> &'static str
+        ensures { result.now ≡ name_of (fault_is self).number }
+    {
+        match self {
+            Error::UnexpectedEof(_) => "UnexpectedEof",
+            Error::UnknownReservedLength(_) => "UnknownReservedLength",
+            Error::UnknownVersion(_) => "UnknownVersion",
+            Error::UnsupportedAddressSize(_) => "UnsupportedAddressSize",
+            Error::UnsupportedSegmentSize(_) => "UnsupportedSegmentSize",
+            Error::UnsupportedOffset => "UnsupportedOffset",
+            Error::UnsupportedOffsetSize(_) => "UnsupportedOffsetSize",
+            Error::BadUnsignedLeb128 => "BadUnsignedLeb128",
+            Error::BadSignedLeb128 => "BadSignedLeb128",
+            Error::AddressOverflow => "AddressOverflow",
+            Error::SectionTooLong => "SectionTooLong",
+            Error::NothingOpen => "NothingOpen",
+            Error::RelocationRefused(_) => "RelocationRefused",
+            Error::BadLength(_) => "BadLength",
+        }
+    }
+
     /// What the fault tells beside its name, 0 where that is nothing.
     pub fn payload(self) -> u64
         ensures { result ≡ (fault_is self).payload }
@@ -58,5 +82,16 @@ impl Error {
             Error::RelocationRefused(offset) => offset,
             Error::BadLength(len) => len as u64,
         }
+    }
+}
+
+/// Writes a fault as its name and its payload.
+impl fmt::Display for Error {
+    ghost output = { λ error. Some (fault_text (fault_is error)) };
+
+    fn fmt<W: fmt::Write>(&self, f: &mut fmt::Formatter<W>) -> fmt::Result {
+        let name = self.name();
+        let payload = self.payload();
+        write!(f, "{name} {payload}")
     }
 }

@@ -1,7 +1,7 @@
-use Rattle.std.proofs.Common.{◌≡◌, ◌++◌, drop, string_bytes}
+use Rattle.std.proofs.Common.{◌≡◌, take, string_bytes}
 use Rattle.hex_digits.specs.Hex.{encoded}
 use Rattle.hex_digits.proofs.encode.Given as goal
 
--- the digits so far, and those of the bytes left, are all
+-- the digits so far are those of the bytes so far
 abbrev pub invariant-loop-byte : goal.invariant-loop-byte
-invariant-loop-byte l = string_bytes l.text ++ encoded (drop l.byte-index l.bytes) ≡ encoded l.bytes
+invariant-loop-byte l = string_bytes l.text ≡ encoded (take l.byte-index l.bytes)

@@ -1,0 +1,6 @@
+use Rattle.std.proofs.Common.{length}
+use Rattle.mallethill.proofs.sum_of_numbers.Given as goal
+
+-- the bytes left
+abbrev pub decreases-loop-number : goal.decreases-loop-number
+decreases-loop-number g l = length (g.R.Reader.means l.reader).rest

@@ -1,0 +1,6 @@
+use Rattle.std.proofs.Common.{length}
+use Rattle.mallethill.proofs.sum_of_tuples.Given as goal
+
+-- the bytes left
+abbrev pub decreases-loop-next : goal.decreases-loop-next
+decreases-loop-next g l = length (g.R.Reader.means l.entries.input).rest
