@@ -2,9 +2,9 @@
 #![tactic(auto)]
 
 use aranges::{ArangeHeader, DebugAranges};
-use endian_slice::EndianSlice;
 use leb128::read_uleb128;
 use readers::{AddressReader, Error, Reader, RunTimeEndian};
+use section_reader::EndianSlice;
 use walk::lookup_address;
 
 #[unsafe(no_mangle)]

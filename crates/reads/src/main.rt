@@ -5,8 +5,6 @@
 // `reloc KIND ORDER HEX RECORDS RECORDS SKIP CALL:NUMBER` skips bytes under one table and calls under two.
 #![tactic(auto)]
 
-use endian_reader::EndianReader;
-use endian_slice::EndianSlice;
 use hex_digits::{decode, encode};
 use leb128::{Leb128, read_sleb128, read_uleb128, read_uleb128_u16, read_uleb128_u32, skip_leb128};
 use numbers::{
@@ -15,6 +13,7 @@ use numbers::{
 };
 use readers::{AddressReader, Error, Format, Reader, ReaderOffset, RunTimeEndian};
 use relocate::{RelocateReader, Relocation, RelocationTable};
+use section_reader::{EndianReader, EndianSlice};
 use std::alloc::{AllocError, Global};
 use std::io::{BufRead, BufReader};
 use std::{fmt, io};
@@ -271,7 +270,7 @@ fn record_of(text: &str) -> Option<Relocation> {
     let mut numbers = text.split(',');
     Some(Relocation {
         offset: numbers.next()?.parse::<u64>().ok()?,
-        kind: numbers.next()?.parse::<u8>().ok()?,
+        kind: numbers.next()?.parse::<u8>().ok()?.into(),
         amount: numbers.next()?.parse::<u64>().ok()?,
     })
 }

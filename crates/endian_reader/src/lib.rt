@@ -1,6 +1,0 @@
-// A reader of a section in memory, with offsets of u32.
-#![tactic(auto)]
-
-mod endian_reader;
-
-pub use endian_reader::EndianReader;
