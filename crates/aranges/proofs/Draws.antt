@@ -1,7 +1,8 @@
 -- The tuples of a walk one by one: what the first left says of `first`.
-use Rattle.std.proofs.Common.{◌≡◌, ℕ, suc, ◌+◌, ◌-◌, ◌*◌, ◌/◌, ◌<◌, ◌≤◌, Bool, true, false, cond, eqb, leb, ◌⊎◌, length, take, Ok, Err, Option, Result, sym, refl, ap, ◌∙◌, subst, inl, inr, add_assoc, add-one, arith, length-drop, drop-drop}
+use Rattle.std.proofs.Common.{◌≡◌, ℕ, suc, ◌+◌, ◌-◌, ◌*◌, ◌/◌, ◌<◌, ◌≤◌, Bool, true, false, cond, eqb, leb, ◌⊎◌, length, take, IsErrAnd, Ok, Err, Option, Result, sym, refl, ap, ◌∙◌, subst, inl, inr, add_assoc, add-one, arith, length-drop, drop-drop}
 use native.Mathlib.Nat.{div-eq_of_lt, div-eq-sub-div, div-zero}
 use Rattle.std.proofs.lemmas.Bool.{ne_eqb, and_right}
+use Rattle.std.proofs.lemmas.Result.{err_from_is_err_and}
 use Rattle.readers.specs.Outcome.{Outcome, Fault, answer, fault}
 use Rattle.readers.specs.Reading.{Meaning, Step, then, past, address, relocated, is_size, gives, refuses, spelt}
 use Rattle.readers.specs.declared.error.Error.{Error}
@@ -171,3 +172,11 @@ pub drew : (k : Kind) (r : Result (Option ArangeEntry) Error) (s t : ℕ) (a b m
 drew k r s t a b m m0 u v i e =
     let q : (told_is r, left s b) ≡ draw k (left s m0) = sym e ∙ i in
     record { answers = ap (λ (x : Told × Left). x.0) q; leaves = ap (λ (n : ℕ). left n a) u ∙ ap (left s) v ∙ ap (λ (x : Told × Left). x.1) q }
+
+-- the same at the exit of a `?`
+pub drew_fault : (k : Kind) (r : Result (Option ArangeEntry) Error) (x : Error) (s t : ℕ) (a b m m0 : Meaning) → IsErrAnd r (λ y. y ≡ x) → t ≡ s → a ≡ b
+    → draw k (left s m) ≡ draw k (left s m0) → draw k (left s m) ≡ (failed (fault_is x), left s b) → Drew r (left t a) (draw k (left s m0))
+drew_fault k r x s t a b m m0 by u v i e =
+    let p = err_from_is_err_and r by in
+    let f : failed (fault_is x) ≡ told_is r = rw (p.1, p.2) in
+    drew k r s t a b m m0 u v i (e ∙ ap (λ (y : Told). (y, left s b)) f)

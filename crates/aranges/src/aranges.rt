@@ -1,7 +1,7 @@
 // The section `.debug_aranges`: sets, each with a header and the tuples of one unit.
-ghost use Rattle.std.specs.Prelude.{◌≡◌, ℕ, length, if◌then◌else◌, ◌-◌, ◌%◌, ◌<◌};
+ghost use Rattle.std.specs.Prelude.{◌≡◌, ℕ, length, MatchResult, if◌then◌else◌, ◌-◌, ◌%◌, ◌<◌};
 ghost use Rattle.readers.specs.Outcome.{fault_of};
-ghost use Rattle.readers.specs.Reading.{skipped, is_size};
+ghost use Rattle.readers.specs.Reading.{emptied, skipped, is_size};
 ghost use Rattle.readers.specs.Links.{Did, outcome_is, option_is, word_of};
 ghost use Rattle.aranges.specs.Sets.{version as versioned, sizes, padding as padded, header_size, header_past, fields, set_step};
 ghost use Rattle.aranges.specs.Tuples.{two, convert, raw, converted};
@@ -76,13 +76,8 @@ impl<R: AddressReader> ArangeHeaderIter<R> {
             return Ok(None);
         }
         let offset = self.input.offset_id().0.saturating_sub(self.start);
-        match ArangeHeader::parse(&mut self.input, DebugArangesOffset(offset)) {
-            Ok(header) => Ok(Some(header)),
-            Err(error) => {
-                self.input.empty();
-                Err(error)
-            }
-        }
+        let header = ArangeHeader::parse(&mut self.input, DebugArangesOffset(offset));
+        or_empty(&mut self.input, header).map(Some)
     }
 }
 
@@ -275,19 +270,13 @@ impl<R: AddressReader> ArangeEntryIter<R> {
         let address_size = self.encoding.address_size;
         let tuple_length = 2 * (address_size as u64);
         while 0 < tuple_length && tuple_length <= self.input.len().into_u64() {
-            match read_tuple(&mut self.input, address_size) {
-                Ok((begin, length)) => {
-                    if begin != 0 || length != 0 {
-                        return Ok(Some(ArangeEntry {
-                            range: Range { begin, end: 0 },
-                            length,
-                        }));
-                    }
-                }
-                Err(error) => {
-                    self.input.empty();
-                    return Err(error);
-                }
+            let tuple = read_tuple(&mut self.input, address_size);
+            let (begin, length) = or_empty(&mut self.input, tuple)?;
+            if begin != 0 || length != 0 {
+                return Ok(Some(ArangeEntry {
+                    range: Range { begin, end: 0 },
+                    length,
+                }));
             }
         }
         self.input.empty();
@@ -309,6 +298,17 @@ impl<R: AddressReader> ArangeEntryIter<R> {
             length: entry.length,
         }))
     }
+}
+
+// A read's outcome, where a fault leaves no bytes.
+fn or_empty<R: Reader, T>(input: &mut R, outcome: Result<T, Error>) -> Result<T, Error>
+    ensures same { result ≡ outcome }
+    ensures left { MatchResult result (λ _. R.Reader.means input.new ≡ R.Reader.means input.old) (λ _. R.Reader.means input.new ≡ emptied (R.Reader.means input.old)) }
+{
+    if outcome.is_err() {
+        input.empty();
+    }
+    outcome
 }
 
 // The two addresses of a tuple.
