@@ -50,7 +50,7 @@ tuple_by k s o p = elim o [ answer b ↦ elim p [ answer l ↦ pair k s b l | fa
 tuple_at : (k : Kind) (s : ℕ) (m : Meaning) (o p : Outcome ℕ) → (address s m).outcome ≡ o → (address s (past s m)).outcome ≡ p → tuple k s m ≡ tuple_by k s o p
 tuple_at k s m o p e d = ap (λ (x : Outcome ℕ). tuple_by k s x (address s (past s m)).outcome) e ∙ ap (λ (x : Outcome ℕ). tuple_by k s o x) d
 
-same_answer : {A : Type 0} {x y : A} → answer x ≡ answer y → x ≡ y
+pub same_answer : {A : Type 0} {x y : A} → answer x ≡ answer y → x ≡ y
 same_answer e = cc
 
 same_pair : (x y b l : ℕ) → ◌≡◌ {A = Outcome (ℕ × ℕ)} (answer (x, y)) (answer (b, l)) → (x ≡ b) × (y ≡ l)

@@ -7,7 +7,7 @@ use Rattle.readers.specs.Reading.{Meaning, Step, past, front, then, gives, refus
 use Rattle.numbers.specs.Numbers.{Initial, initial, size_of_addresses}
 use Rattle.aranges.specs.Sets.{Header, version, a_version, no_segment, from_segment, apart, sizes, padding, whole, from_padding, from_sizes, from_info, fields, from_length, set_step}
 use Rattle.aranges.specs.Iterators.{or_empties, next_set}
-use Rattle.aranges.proofs.Draws.{then_answered, then_at}
+use Rattle.aranges.proofs.Draws.{then_answered, then_at, same_answer}
 
 -- a step leaves no more bytes than there were
 abbrev Shrinks : {A : Type 0} → Meaning → Step A → Type 0
@@ -68,9 +68,6 @@ then_within m t k s f h e =
     let p = then_answered t.outcome t.after k h e in
     let q = f p.0 t.after h p.2 in
     omega arith
-
-same_answer : {A : Type 0} {x y : A} → answer x ≡ answer y → x ≡ y
-same_answer e = cc
 
 whole_within : (p l w v o s : ℕ) (u : Unit {0}) (m : Meaning) → Within m (whole p l w v o s u m)
 whole_within p l w v o s u m h e = let q = ap (λ (x : Header). length x.tuples.rest) (same_answer e) in omega arith

@@ -58,6 +58,7 @@ impl<R: AddressReader> DebugAranges<R> {
     }
 }
 
+// No `Iterator`, here and at tuples: as in gimli, next answers a fault or none apart.
 /// An iterator over the headers of a section.
 #[derive(Drop)]
 pub struct ArangeHeaderIter<R: AddressReader> {
@@ -81,6 +82,8 @@ impl<R: AddressReader> ArangeHeaderIter<R> {
     }
 }
 
+// Clauses give `header_is` the bound's members each time: a clause has no shorter name for them, and
+// a model's value can hold no function, as the relocation of the tuples' reader is.
 /// The header of a set of tuples, all of one unit.
 #[derive(Drop)]
 pub struct ArangeHeader<R: AddressReader> {
@@ -157,6 +160,7 @@ impl<R: AddressReader> ArangeHeader<R> {
         self.debug_info_offset
     }
 
+    // No derive: a reader's clone has equal meaning, of which `Clone` says nothing.
     /// A second header of equal meaning.
     pub fn clone(&self) -> ArangeHeader<R>
         ensures { header_is R.Reader.means R.Offset.ReaderOffset.number result ≡ header_is R.Reader.means R.Offset.ReaderOffset.number self.now }
@@ -224,7 +228,7 @@ fn padding(format: Format, address_size: u8) -> u32
     ensures { result ≡ padded (word_of format) address_size }
 {
     let length = header_length(format);
-    // one division by a constant in each case, which is none where code is compiled
+    // kept for speed: a division by a constant in each arm, which is none where code is compiled
     match address_size {
         0 => 0,
         1 => to_multiple(length, 2),
@@ -235,7 +239,8 @@ fn padding(format: Format, address_size: u8) -> u32
     }
 }
 
-// How many bytes there are from a place to the next that is a multiple of a size.
+// How many bytes there are from a place to the next that is a multiple of a size. It is the rule's
+// own term: `next_multiple_of` would ask for a bound on the sum, and test the rest.
 fn to_multiple(place: u32, size: u32) -> u32
     requires { 0 < size }
     ensures { result ≡ (size - place % size) % size }

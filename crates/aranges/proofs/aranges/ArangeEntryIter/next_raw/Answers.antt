@@ -1,4 +1,4 @@
-use Rattle.std.proofs.Common.{◌*◌, ◌≤◌, length, Some, None, Ok, Err, sym, refl, ap, ◌∙◌, inl, inr, arith}
+use Rattle.std.proofs.Common.{◌*◌, ◌≤◌, length, Some, None, Ok, Err, sym, ap, ◌∙◌, inl, inr, arith}
 use Rattle.readers.specs.declared.common.Encoding.{Encoding}
 use Rattle.readers.specs.Links.{Did}
 use Rattle.readers.specs.Reading.{Meaning, emptied}
