@@ -18,7 +18,7 @@ pub then_answered : {A B : Type 0} (o : Outcome A) (a : Meaning) (k : A → Mean
     → (then (record { outcome = o; after = a }) k).outcome ≡ answer y
     → (x : A) × (o ≡ answer x) × ((k x a).outcome ≡ answer y)
 then_answered (answer x) a k y h = (x, refl, h)
-then_answered (fault f) a k y h = let z : ◌≡◌ {A = ℕ} 0 1 = cc in absurd (omega arith)
+then_answered (fault f) a k y h = cc
 
 pub then_faulted : {A B : Type 0} (o : Outcome A) (a : Meaning) (k : A → Meaning → Step B) (f : Fault)
     → (then (record { outcome = o; after = a }) k).outcome ≡ fault f
@@ -34,8 +34,8 @@ address_by : (z y : Bool) (s v b : ℕ) (m p : Meaning) (f : ℕ → ℕ → Out
     → (then (cond z (cond y (gives v p) (refuses 1 m.id m)) (refuses 4 s m)) (relocated f m)).outcome ≡ answer b
     → ((then (cond z (cond y (gives v p) (refuses 1 m.id m)) (refuses 4 s m)) (relocated f m)).after ≡ p) × (z ≡ true)
 address_by true true s v b m p f h = (refl, refl)
-address_by true false s v b m p f h = let z : ◌≡◌ {A = ℕ} 0 1 = cc in absurd (omega arith)
-address_by false y s v b m p f h = let z : ◌≡◌ {A = ℕ} 0 1 = cc in absurd (omega arith)
+address_by true false s v b m p f h = cc
+address_by false y s v b m p f h = cc
 
 pub address_answered : (s : ℕ) (m : Meaning) (b : ℕ) → (address s m).outcome ≡ answer b
     → ((address s m).after ≡ past s m) × (is_size s ≡ true)
@@ -73,7 +73,7 @@ two_answered s m b l h =
     )
 
 second_faulted : (o : Outcome ℕ) (a : Meaning) (x : ℕ) (f : Fault) → (then (record { outcome = o; after = a }) (ended x)).outcome ≡ fault f → o ≡ fault f
-second_faulted (answer y) a x f h = let z : ◌≡◌ {A = ℕ} 0 1 = cc in absurd (omega arith)
+second_faulted (answer y) a x f h = cc
 second_faulted (fault e) a x f h = cc
 
 two_faulted_by : (s : ℕ) (m : Meaning) (f : Fault) (k : Kind)
