@@ -1,7 +1,8 @@
 -- The tuples of a walk one by one: what the first left says of `first`.
-use Rattle.std.proofs.Common.{◌≡◌, ℕ, suc, ◌+◌, ◌-◌, ◌*◌, ◌/◌, ◌<◌, ◌≤◌, Bool, true, false, cond, eqb, leb, ◌⊎◌, length, take, Ok, Err, Option, Result, sym, refl, ap, ◌∙◌, subst, inl, inr, add_assoc, add-one, arith, length-drop, drop-drop}
+use Rattle.std.proofs.Common.{◌≡◌, ℕ, suc, ◌+◌, ◌-◌, ◌*◌, ◌/◌, ◌<◌, ◌≤◌, Bool, true, false, cond, eqb, leb, ◌⊎◌, length, take, IsErrAnd, Ok, Err, Option, Result, sym, refl, ap, ◌∙◌, subst, inl, inr, add_assoc, add-one, arith, length-drop, drop-drop}
 use native.Mathlib.Nat.{div-eq_of_lt, div-eq-sub-div, div-zero}
 use Rattle.std.proofs.lemmas.Bool.{ne_eqb, and_right}
+use Rattle.std.proofs.lemmas.Result.{err_from_is_err_and}
 use Rattle.readers.specs.Outcome.{Outcome, Fault, answer, fault}
 use Rattle.readers.specs.Reading.{Meaning, Step, then, past, address, relocated, is_size, gives, refuses, spelt}
 use Rattle.readers.specs.declared.error.Error.{Error}
@@ -17,7 +18,7 @@ pub then_answered : {A B : Type 0} (o : Outcome A) (a : Meaning) (k : A → Mean
     → (then (record { outcome = o; after = a }) k).outcome ≡ answer y
     → (x : A) × (o ≡ answer x) × ((k x a).outcome ≡ answer y)
 then_answered (answer x) a k y h = (x, refl, h)
-then_answered (fault f) a k y h = let z : ◌≡◌ {A = ℕ} 0 1 = cc in absurd (omega arith)
+then_answered (fault f) a k y h = cc
 
 pub then_faulted : {A B : Type 0} (o : Outcome A) (a : Meaning) (k : A → Meaning → Step B) (f : Fault)
     → (then (record { outcome = o; after = a }) k).outcome ≡ fault f
@@ -33,8 +34,8 @@ address_by : (z y : Bool) (s v b : ℕ) (m p : Meaning) (f : ℕ → ℕ → Out
     → (then (cond z (cond y (gives v p) (refuses 1 m.id m)) (refuses 4 s m)) (relocated f m)).outcome ≡ answer b
     → ((then (cond z (cond y (gives v p) (refuses 1 m.id m)) (refuses 4 s m)) (relocated f m)).after ≡ p) × (z ≡ true)
 address_by true true s v b m p f h = (refl, refl)
-address_by true false s v b m p f h = let z : ◌≡◌ {A = ℕ} 0 1 = cc in absurd (omega arith)
-address_by false y s v b m p f h = let z : ◌≡◌ {A = ℕ} 0 1 = cc in absurd (omega arith)
+address_by true false s v b m p f h = cc
+address_by false y s v b m p f h = cc
 
 pub address_answered : (s : ℕ) (m : Meaning) (b : ℕ) → (address s m).outcome ≡ answer b
     → ((address s m).after ≡ past s m) × (is_size s ≡ true)
@@ -49,7 +50,7 @@ tuple_by k s o p = elim o [ answer b ↦ elim p [ answer l ↦ pair k s b l | fa
 tuple_at : (k : Kind) (s : ℕ) (m : Meaning) (o p : Outcome ℕ) → (address s m).outcome ≡ o → (address s (past s m)).outcome ≡ p → tuple k s m ≡ tuple_by k s o p
 tuple_at k s m o p e d = ap (λ (x : Outcome ℕ). tuple_by k s x (address s (past s m)).outcome) e ∙ ap (λ (x : Outcome ℕ). tuple_by k s o x) d
 
-same_answer : {A : Type 0} {x y : A} → answer x ≡ answer y → x ≡ y
+pub same_answer : {A : Type 0} {x y : A} → answer x ≡ answer y → x ≡ y
 same_answer e = cc
 
 same_pair : (x y b l : ℕ) → ◌≡◌ {A = Outcome (ℕ × ℕ)} (answer (x, y)) (answer (b, l)) → (x ≡ b) × (y ≡ l)
@@ -72,7 +73,7 @@ two_answered s m b l h =
     )
 
 second_faulted : (o : Outcome ℕ) (a : Meaning) (x : ℕ) (f : Fault) → (then (record { outcome = o; after = a }) (ended x)).outcome ≡ fault f → o ≡ fault f
-second_faulted (answer y) a x f h = let z : ◌≡◌ {A = ℕ} 0 1 = cc in absurd (omega arith)
+second_faulted (answer y) a x f h = cc
 second_faulted (fault e) a x f h = cc
 
 two_faulted_by : (s : ℕ) (m : Meaning) (f : Fault) (k : Kind)
@@ -171,3 +172,11 @@ pub drew : (k : Kind) (r : Result (Option ArangeEntry) Error) (s t : ℕ) (a b m
 drew k r s t a b m m0 u v i e =
     let q : (told_is r, left s b) ≡ draw k (left s m0) = sym e ∙ i in
     record { answers = ap (λ (x : Told × Left). x.0) q; leaves = ap (λ (n : ℕ). left n a) u ∙ ap (left s) v ∙ ap (λ (x : Told × Left). x.1) q }
+
+-- the same at the exit of a `?`
+pub drew_fault : (k : Kind) (r : Result (Option ArangeEntry) Error) (x : Error) (s t : ℕ) (a b m m0 : Meaning) → IsErrAnd r (λ y. y ≡ x) → t ≡ s → a ≡ b
+    → draw k (left s m) ≡ draw k (left s m0) → draw k (left s m) ≡ (failed (fault_is x), left s b) → Drew r (left t a) (draw k (left s m0))
+drew_fault k r x s t a b m m0 by u v i e =
+    let p = err_from_is_err_and r by in
+    let f : failed (fault_is x) ≡ told_is r = rw (p.1, p.2) in
+    drew k r s t a b m m0 u v i (e ∙ ap (λ (y : Told). (y, left s b)) f)

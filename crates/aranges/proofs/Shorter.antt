@@ -7,7 +7,7 @@ use Rattle.readers.specs.Reading.{Meaning, Step, past, front, then, gives, refus
 use Rattle.numbers.specs.Numbers.{Initial, initial, size_of_addresses}
 use Rattle.aranges.specs.Sets.{Header, version, a_version, no_segment, from_segment, apart, sizes, padding, whole, from_padding, from_sizes, from_info, fields, from_length, set_step}
 use Rattle.aranges.specs.Iterators.{or_empties, next_set}
-use Rattle.aranges.proofs.Draws.{then_answered, then_at}
+use Rattle.aranges.proofs.Draws.{then_answered, then_at, same_answer}
 
 -- a step leaves no more bytes than there were
 abbrev Shrinks : {A : Type 0} → Meaning → Step A → Type 0
@@ -69,9 +69,6 @@ then_within m t k s f h e =
     let q = f p.0 t.after h p.2 in
     omega arith
 
-same_answer : {A : Type 0} {x y : A} → answer x ≡ answer y → x ≡ y
-same_answer e = cc
-
 whole_within : (p l w v o s : ℕ) (u : Unit {0}) (m : Meaning) → Within m (whole p l w v o s u m)
 whole_within p l w v o s u m h e = let q = ap (λ (x : Header). length x.tuples.rest) (same_answer e) in omega arith
 
@@ -86,7 +83,7 @@ fields_within limit p l w m =
 fixed_by : (n v x : ℕ) (m : Meaning) (b : Bool) → leb n (length m.rest) ≡ b → (cond b (gives v (past n m)) (refuses 1 m.id m)).outcome ≡ answer x
     → length (cond b (gives v (past n m)) (refuses 1 m.id m)).after.rest + n ≡ length m.rest
 fixed_by n v x m true q e = omega (arith, leb-true n (length m.rest) q, length-drop n m.rest)
-fixed_by n v x m false q e = let z : ◌≡◌ {A = ℕ} 0 1 = cc in absurd (omega arith)
+fixed_by n v x m false q e = cc
 
 fixed_answered : (n : ℕ) (m : Meaning) (x : ℕ) → (fixed n m).outcome ≡ answer x → length (fixed n m).after.rest + n ≡ length m.rest
 fixed_answered n m x e = fixed_by n (spelt m.big (take n m.rest)) x m (leb n (length m.rest)) refl e
@@ -122,7 +119,7 @@ split_by : (n : ℕ) (m t : Meaning) (b : Bool) → leb n (length m.rest) ≡ b 
 split_by n m t true q e =
     let u : length (take n m.rest) ≡ length t.rest = ap (λ (x : Meaning). length x.rest) (same_answer e) in
     omega (arith, u, leb-true n (length m.rest) q, length-drop n m.rest, length-take-le n m.rest (leb-true n (length m.rest) q))
-split_by n m t false q e = let z : ◌≡◌ {A = ℕ} 0 1 = cc in absurd (omega arith)
+split_by n m t false q e = cc
 
 split_answered : (n : ℕ) (m t : Meaning) → (split_off n m).outcome ≡ answer t → length t.rest + length (split_off n m).after.rest ≡ length m.rest
 split_answered n m t e = split_by n m t (leb n (length m.rest)) refl e
@@ -145,9 +142,9 @@ set_shorter limit p m h e =
 next_by : (b : Bool) (m : Meaning) (o : Outcome Header) (a : Meaning) (h : Header)
     → (cond b (gives None m) (or_empties (record { outcome = o; after = a }))).outcome ≡ answer (Some h)
     → (o ≡ answer h) × ((cond b (gives None m) (or_empties (record { outcome = o; after = a }))).after ≡ a)
-next_by true m o a h e = let z : ◌≡◌ {A = ℕ} 0 1 = cc in absurd (omega arith)
+next_by true m o a h e = cc
 next_by false m (answer g) a h e = (cc, refl)
-next_by false m (fault f) a h e = let z : ◌≡◌ {A = ℕ} 0 1 = cc in absurd (omega arith)
+next_by false m (fault f) a h e = cc
 
 pub next_shorter : (limit b : ℕ) (m : Meaning) (h : Header) → (next_set limit b m).outcome ≡ answer (Some h)
     → length h.tuples.rest + length (next_set limit b m).after.rest < length m.rest

@@ -1,7 +1,7 @@
 // The section `.debug_aranges`: sets, each with a header and the tuples of one unit.
-ghost use Rattle.std.specs.Prelude.{◌≡◌, ℕ, length, if◌then◌else◌, ◌-◌, ◌%◌, ◌<◌};
+ghost use Rattle.std.specs.Prelude.{◌≡◌, ℕ, length, MatchResult, if◌then◌else◌, ◌-◌, ◌%◌, ◌<◌};
 ghost use Rattle.readers.specs.Outcome.{fault_of};
-ghost use Rattle.readers.specs.Reading.{skipped, is_size};
+ghost use Rattle.readers.specs.Reading.{emptied, skipped, is_size};
 ghost use Rattle.readers.specs.Links.{Did, outcome_is, option_is, word_of};
 ghost use Rattle.aranges.specs.Sets.{version as versioned, sizes, padding as padded, header_size, header_past, fields, set_step};
 ghost use Rattle.aranges.specs.Tuples.{two, convert, raw, converted};
@@ -58,6 +58,7 @@ impl<R: AddressReader> DebugAranges<R> {
     }
 }
 
+// No `Iterator`, here and at tuples: as in gimli, next answers a fault or none apart.
 /// An iterator over the headers of a section.
 #[derive(Drop)]
 pub struct ArangeHeaderIter<R: AddressReader> {
@@ -76,16 +77,13 @@ impl<R: AddressReader> ArangeHeaderIter<R> {
             return Ok(None);
         }
         let offset = self.input.offset_id().0.saturating_sub(self.start);
-        match ArangeHeader::parse(&mut self.input, DebugArangesOffset(offset)) {
-            Ok(header) => Ok(Some(header)),
-            Err(error) => {
-                self.input.empty();
-                Err(error)
-            }
-        }
+        let header = ArangeHeader::parse(&mut self.input, DebugArangesOffset(offset));
+        or_empty(&mut self.input, header).map(Some)
     }
 }
 
+// Clauses give `header_is` the bound's members each time: a clause has no shorter name for them, and
+// a model's value can hold no function, as the relocation of the tuples' reader is.
 /// The header of a set of tuples, all of one unit.
 #[derive(Drop)]
 pub struct ArangeHeader<R: AddressReader> {
@@ -162,6 +160,7 @@ impl<R: AddressReader> ArangeHeader<R> {
         self.debug_info_offset
     }
 
+    // No derive: a reader's clone has equal meaning, of which `Clone` says nothing.
     /// A second header of equal meaning.
     pub fn clone(&self) -> ArangeHeader<R>
         ensures { header_is R.Reader.means R.Offset.ReaderOffset.number result ≡ header_is R.Reader.means R.Offset.ReaderOffset.number self.now }
@@ -229,7 +228,7 @@ fn padding(format: Format, address_size: u8) -> u32
     ensures { result ≡ padded (word_of format) address_size }
 {
     let length = header_length(format);
-    // one division by a constant in each case, which is none where code is compiled
+    // kept for speed: a division by a constant in each arm, which is none where code is compiled
     match address_size {
         0 => 0,
         1 => to_multiple(length, 2),
@@ -240,7 +239,8 @@ fn padding(format: Format, address_size: u8) -> u32
     }
 }
 
-// How many bytes there are from a place to the next that is a multiple of a size.
+// How many bytes there are from a place to the next that is a multiple of a size. It is the rule's
+// own term: `next_multiple_of` would ask for a bound on the sum, and test the rest.
 fn to_multiple(place: u32, size: u32) -> u32
     requires { 0 < size }
     ensures { result ≡ (size - place % size) % size }
@@ -275,19 +275,13 @@ impl<R: AddressReader> ArangeEntryIter<R> {
         let address_size = self.encoding.address_size;
         let tuple_length = 2 * (address_size as u64);
         while 0 < tuple_length && tuple_length <= self.input.len().into_u64() {
-            match read_tuple(&mut self.input, address_size) {
-                Ok((begin, length)) => {
-                    if begin != 0 || length != 0 {
-                        return Ok(Some(ArangeEntry {
-                            range: Range { begin, end: 0 },
-                            length,
-                        }));
-                    }
-                }
-                Err(error) => {
-                    self.input.empty();
-                    return Err(error);
-                }
+            let tuple = read_tuple(&mut self.input, address_size);
+            let (begin, length) = or_empty(&mut self.input, tuple)?;
+            if begin != 0 || length != 0 {
+                return Ok(Some(ArangeEntry {
+                    range: Range { begin, end: 0 },
+                    length,
+                }));
             }
         }
         self.input.empty();
@@ -309,6 +303,17 @@ impl<R: AddressReader> ArangeEntryIter<R> {
             length: entry.length,
         }))
     }
+}
+
+// A read's outcome, where a fault leaves no bytes.
+fn or_empty<R: Reader, T>(input: &mut R, outcome: Result<T, Error>) -> Result<T, Error>
+    ensures same { result ≡ outcome }
+    ensures left { MatchResult result (λ _. R.Reader.means input.new ≡ R.Reader.means input.old) (λ _. R.Reader.means input.new ≡ emptied (R.Reader.means input.old)) }
+{
+    if outcome.is_err() {
+        input.empty();
+    }
+    outcome
 }
 
 // The two addresses of a tuple.

@@ -52,16 +52,17 @@ looks {A = A} f limit b s a c m after r q d =
     ∙ ap (λ (o : Outcome (Option Header)). look_by a c o (λ d. look_all limit b a d (next_set limit b m).after)) (sym e.answers)
     ∙ ap (λ (n : Meaning). look_by a c (outcome_is (option_is f) r) (λ d. look_all limit b a d n)) (sym e.leaves)
 
-pub looks_shorter : {A : Type 0} (f : A → Header) (limit s : ℕ) (m after : Meaning) (x : A) → Did (option_is f) (Ok (Some x)) after (next_set limit s m)
-    → length (f x).tuples.rest + length after.rest < length m.rest
-looks_shorter f limit s m after x d =
-    let q = next_shorter limit s m (f x) (sym d.answers) in
-    let e = ap (λ (n : Meaning). length n.rest) d.leaves in
-    omega (arith, q, e)
-
 -- the same in the arm of a match
 pub in_arm : {A : Type 0} (f : A → Header) (limit s : ℕ) (m after : Meaning) (o x : Option A) → o ≡ x → Did (option_is f) (Ok o) after (next_set limit s m) → Did (option_is f) (Ok x) after (next_set limit s m)
 in_arm {A = A} f limit s m after o x e d = subst (λ (y : Option A). Did (option_is f) (Ok y) after (next_set limit s m)) e d
+
+pub looks_shorter : {A : Type 0} (f : A → Header) (limit s : ℕ) (m after : Meaning) (o : Option A) (x : A) → o ≡ Some x → Did (option_is f) (Ok o) after (next_set limit s m)
+    → length (f x).tuples.rest + length after.rest < length m.rest
+looks_shorter f limit s m after o x p d =
+    let a = in_arm f limit s m after o (Some x) p d in
+    let q = next_shorter limit s m (f x) (sym a.answers) in
+    let e = ap (λ (n : Meaning). length n.rest) a.leaves in
+    omega (arith, q, e)
 
 pub none_of : {A : Type 0} (o : Option A) → ((x : A) → o ≡ Some x → ⊥) → o ≡ None
 none_of (Some x) n = absurd (n x refl)

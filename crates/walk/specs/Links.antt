@@ -7,7 +7,6 @@ use Rattle.aranges.specs.declared.aranges.ArangeEntry.{ArangeEntry}
 use Rattle.aranges.specs.Links.{header_is, entry_is, entries_is}
 use Rattle.walk.specs.declared.lookup.Found.{Found}
 use Rattle.walk.specs.declared.lookup.Lookup.{Lookup}
-use Rattle.walk.specs.declared.lookup.Sought.{Sought}
 use Rattle.walk.specs.declared.walk.Walk.{Walk}
 use Rattle.walk.specs.Events.{Event, Looked, range, spoilt, missing}
 use Rattle.walk.specs.Lookups as Lookups
@@ -29,13 +28,10 @@ pub record Took (e : Event) (after : State.Walk) (t : Turn) : Type 0 where
   pub happened : e ≡ t.event
   pub leaves : after ≡ t.walk
 
--- what a set gave a lookup
+-- what a set gave a lookup, with the number of faults passed so far
 abbrev pub sought_by : Option ArangeEntry → ℕ → Lookups.Sought
 sought_by (Some e) p = Lookups.ended (entry_is e) p
 sought_by None p = Lookups.going p
-
-abbrev pub sought_is : Sought → Lookups.Sought
-sought_is s = sought_by s.entry s.passed
 
 -- what a lookup came to
 abbrev pub found_by : {O : Type 0} → (O → ℕ) → Option (Found O) → ℕ → Looked

@@ -1,9 +1,9 @@
 // The lookup of an address: the first range of a section that holds it.
-ghost use Rattle.std.specs.Prelude.{◌≡◌, ℕ, ◌+◌, ◌≤◌, length};
+ghost use Rattle.std.specs.Prelude.{◌≡◌, ℕ, ◌+◌, ◌^◌, ◌<◌, ◌≤◌, length};
 ghost use Rattle.aranges.specs.Iterators.{entries_of};
 ghost use Rattle.aranges.specs.Links.{header_is};
 ghost use Rattle.walk.specs.Lookups.{seek_on, look_in};
-ghost use Rattle.walk.specs.Links.{sought_is, looked_is};
+ghost use Rattle.walk.specs.Links.{sought_by, looked_is};
 
 use aranges::{ArangeEntry, ArangeHeader, ArangeHeaderIter, DebugAranges};
 use readers::{AddressReader, DebugArangesOffset, DebugInfoOffset, Error, Reader, ReaderOffset};
@@ -23,13 +23,6 @@ pub struct Lookup<O> {
     pub passed: u64,
 }
 
-// What one set gave a lookup, with the number of faulty tuples passed so far.
-#[derive(Clone, Copy)]
-struct Sought {
-    entry: Option<ArangeEntry>,
-    passed: u64,
-}
-
 /// The first range of a section that holds an address; a header's fault ends the search.
 pub fn lookup_address<R: AddressReader>(
     section: &DebugAranges<R>,
@@ -37,13 +30,13 @@ pub fn lookup_address<R: AddressReader>(
 ) -> Result<Lookup<R::Offset>, Error>
     ensures { looked_is R.Offset.ReaderOffset.number result ≡ look_in R.Offset.ReaderOffset.limit address (R.Reader.means section.now.section) }
 {
+    // each fault took a byte, so their number stays within the section's length
     let total = section.len().into_u64();
     let mut headers = section.headers();
-    let mut passed = 0u64;
+    let mut passed = 0;
     while let Some(header) = headers.next()? {
-        let sought = lookup_in_set(&header, address, passed, total);
-        passed = sought.passed;
-        if let Some(entry) = sought.entry {
+        prove!(passed <= total);
+        if let Some(entry) = lookup_in_set(&header, address, &mut passed) {
             return Ok(Lookup {
                 found: Some(Found {
                     entry,
@@ -60,37 +53,27 @@ pub fn lookup_address<R: AddressReader>(
     })
 }
 
-// The same in one set; `most` bounds the faults that can be passed.
+// The same in one set; the faulty tuples that it passes are counted in `passed`.
 fn lookup_in_set<R: AddressReader>(
     header: &ArangeHeader<R>,
     address: u64,
-    passed: u64,
-    most: u64,
-) -> Sought
-    requires { passed + length (R.Reader.means header.now.entries).rest ≤ most }
-    ensures seeks { sought_is result ≡ seek_on address passed (entries_of (header_is R.Reader.means R.Offset.ReaderOffset.number header.now)) }
-    ensures bound { result.passed ≤ passed + length (R.Reader.means header.now.entries).rest }
+    passed: &mut u64,
+) -> Option<ArangeEntry>
+    requires { passed.old + length (R.Reader.means header.now.entries).rest < 2 ^ 64 }
+    ensures seeks { sought_by result passed.new ≡ seek_on address passed.old (entries_of (header_is R.Reader.means R.Offset.ReaderOffset.number header.now)) }
+    ensures bound { passed.new ≤ passed.old + length (R.Reader.means header.now.entries).rest }
 {
     let mut entries = header.entries();
-    let mut passed = passed;
     loop {
         match entries.next() {
-            Ok(next) => match next {
-                Some(entry) => {
-                    let range = entry.range();
-                    if range.begin <= address && address < range.end {
-                        return Sought {
-                            entry: Some(entry),
-                            passed,
-                        };
-                    }
+            Ok(Some(entry)) => {
+                let range = entry.range();
+                if range.begin <= address && address < range.end {
+                    return Some(entry);
                 }
-                None => return Sought {
-                    entry: None,
-                    passed,
-                },
-            },
-            Err(_) => passed += 1,
+            }
+            Ok(None) => return None,
+            Err(_) => *passed += 1,
         }
     }
 }

@@ -12,6 +12,8 @@ use crate::lookup::{Lookup, lookup_address};
 use aranges::{ArangeEntry, ArangeEntryIter, ArangeHeader, ArangeHeaderIter, DebugAranges};
 use readers::{AddressReader, Error, Reader};
 
+// Clauses give `walk_is` the bound's members each time: a clause has no shorter name for them, and a
+// model's value can hold no function, as the relocation of the readers is.
 /// A walk over the sets of a section and the tuples of one set.
 #[derive(Drop)]
 pub struct Walk<R: AddressReader> {
@@ -41,46 +43,34 @@ impl<R: AddressReader> Walk<R> {
     pub fn next_header(&mut self) -> Result<Option<ArangeHeader<R>>, Error>
         ensures { Took (headed (outcome_is (option_is (header_is R.Reader.means R.Offset.ReaderOffset.number)) result)) (walk_is R.Reader.means R.Offset.ReaderOffset.number self.new) (turn_header R.Offset.ReaderOffset.limit (walk_is R.Reader.means R.Offset.ReaderOffset.number self.old)) }
     {
-        match self.headers.next()? {
-            Some(header) => {
-                self.latest = Some(header.clone());
-                Ok(Some(header))
-            }
-            None => Ok(None),
+        let next = self.headers.next()?;
+        if let Some(header) = &next {
+            self.latest = Some(header.clone());
         }
+        Ok(next)
     }
 
     /// Goes to the first tuple of the latest header's set.
     pub fn entries(&mut self) -> Result<(), Error>
         ensures { Took (entered (outcome_is (λ x. x) result)) (walk_is R.Reader.means R.Offset.ReaderOffset.number self.new) (turn_entries (walk_is R.Reader.means R.Offset.ReaderOffset.number self.old)) }
     {
-        match &self.latest {
-            Some(header) => {
-                self.tuples = Some(header.entries());
-                Ok(())
-            }
-            None => Err(Error::NothingOpen),
-        }
+        let header = self.latest.as_ref().ok_or(Error::NothingOpen)?;
+        self.tuples = Some(header.entries());
+        Ok(())
     }
 
     /// The next range of the set that `entries` went to.
     pub fn next(&mut self) -> Result<Option<ArangeEntry>, Error>
         ensures { Took (told converted (told_is result)) (walk_is R.Reader.means R.Offset.ReaderOffset.number self.new) (turn_next converted (walk_is R.Reader.means R.Offset.ReaderOffset.number self.old)) }
     {
-        match &mut self.tuples {
-            Some(tuples) => tuples.next(),
-            None => Err(Error::NothingOpen),
-        }
+        self.tuples.as_mut().ok_or(Error::NothingOpen)?.next()
     }
 
     /// The next tuple of that set as it stands.
     pub fn next_raw(&mut self) -> Result<Option<ArangeEntry>, Error>
         ensures { Took (told raw (told_is result)) (walk_is R.Reader.means R.Offset.ReaderOffset.number self.new) (turn_next raw (walk_is R.Reader.means R.Offset.ReaderOffset.number self.old)) }
     {
-        match &mut self.tuples {
-            Some(tuples) => tuples.next_raw(),
-            None => Err(Error::NothingOpen),
-        }
+        self.tuples.as_mut().ok_or(Error::NothingOpen)?.next_raw()
     }
 
     /// Looks an address up in the whole section, wherever the walk stands.
