@@ -17,7 +17,7 @@ use Rattle.driver.specs.declared.input.Stop.{Stop}
 use Rattle.driver.specs.declared.input.Stop.TheVariants.{Malformed, NoMemory}
 use Rattle.driver.specs.declared.input.Command.{Command}
 use Rattle.driver.specs.declared.input.Command.TheVariants.{Lookup}
-use Rattle.driver.specs.Input.{Read, is_fault, malformed, record_step, joined, some_records, from_count, records_step, command_for, a_lookup, by_command, by_letter, call_step, Asks, bad, good}
+use Rattle.driver.specs.Input.{Read, is_fault, malformed, record_step, joined, some_records, from_count, records_step, command_for, a_lookup, by_command, by_letter, call_step, Asks, Asked, bad, good}
 
 -- a step that ends so was read
 pub gave : {A B : Type 0} (f : A → B) (x : A) (a : Meaning) (s : Step B) → s ≡ gives (f x) a → Read f (Ok x) a s
@@ -66,31 +66,48 @@ pub read_lookup : (l a : ℕ) (m n p : Meaning) → Did (λ x. x) (Ok l) n (fixe
 read_lookup l a m n p d e d8 =
     gave call_is (AskLookup a) p (call_step m) (then_did by_letter d ∙ by_letter_at l Lookup n e ∙ then_did a_lookup d8)
 
--- what the calls so far and the bytes at m ask for, the whole from `start` asks for
-abbrev pub AskedSoFar : Meaning → List Call → Meaning → Type 0
-AskedSoFar start ks m = (cs : List Law.Call) (all : Bool) → Asks m cs all → Asks start (map call_is ks ++ cs) all
+-- The calls that were added so far: with what the bytes at m ask for, they are what the whole from `start` asks for.
+pub record AskedSoFar (start : Meaning) (before : List Law.Call) (ks : List Call) (m : Meaning) : Type 0 where
+  pub calls : List Law.Call
+  pub added : map call_is ks ≡ before ++ calls
+  pub onward : (cs : List Law.Call) (all : Bool) → Asks m cs all → Asks start (calls ++ cs) all
 
-pub asks_more : (start m n : Meaning) (ks ls : List Call) (k : Call) → ls ≡ ks ++ (k ∷ [])
-    → Read call_is (Ok k) n (call_step m) → AskedSoFar start ks m → AskedSoFar start ls n
-asks_more start m n ks ls k e r so cs all h =
-    let eq : map call_is ks ++ (call_is k ∷ cs) ≡ map call_is ls ++ cs =
-    rw (e, map-append call_is ks (k ∷ [])) (sym (append_assoc (map call_is ks) (call_is k ∷ []) cs))
-    in
-    let P : Meaning → Type 0 = λ x. Asks x cs all in
+pub asks_none : (m : Meaning) (ks : List Call) → AskedSoFar m (map call_is ks) ks m
+asks_none m ks = record { calls = []; added = sym (append-nil (map call_is ks)); onward = λ cs all h. h }
+
+pub asks_more : (start m n : Meaning) (before : List Law.Call) (ks ls : List Call) (k : Call) → ls ≡ ks ++ (k ∷ [])
+    → Read call_is (Ok k) n (call_step m) → AskedSoFar start before ks m → AskedSoFar start before ls n
+asks_more start m n before ks ls k e r so =
+    record {
+      calls = so.calls ++ (call_is k ∷ []);
+      added =
+          ap (λ (xs : List Call). map call_is xs) e ∙ map-append call_is ks (k ∷ [])
+          ∙ ap (λ (xs : List Law.Call). xs ++ (call_is k ∷ [])) so.added ∙ append_assoc before so.calls (call_is k ∷ []);
+      onward =
+          λ cs all h.
+          let P : Meaning → Type 0 = λ x. Asks x cs all in
+          rw append_assoc (so.onward (call_is k ∷ cs) all (good (sym r.0) (subst P r.1 h)));
+    }
+
+-- the calls that are whole with those so far
+abbrev pub AskedAll : Meaning → Bool → List Law.Call → List Call → Type 0
+AskedAll start all before ks = (cs : List Law.Call) × (map call_is ks ≡ before ++ cs) × Asks start cs all
+
+pub asks_stop : (start m : Meaning) (all : Bool) (before : List Law.Call) (ks : List Call) → AskedSoFar start before ks m → Asks m [] all → AskedAll start all before ks
+asks_stop start m all before ks so h =
     let Q : List Law.Call → Type 0 = λ xs. Asks start xs all in
-    subst Q eq (so (call_is k ∷ cs) all (good (sym r.0) (subst P r.1 h)))
+    (so.calls, so.added, subst Q (append-nil so.calls) (so.onward [] all h))
 
-pub asks_stop : (start m : Meaning) (ks : List Call) (all : Bool) → AskedSoFar start ks m → Asks m [] all → Asks start (map call_is ks) all
-asks_stop start m ks all so h =
-    let Q : List Law.Call → Type 0 = λ xs. Asks start xs all in
-    subst Q (append-nil (map call_is ks)) (so [] all h)
+asks_bad_by : (y : Stop) (start m n : Meaning) (before : List Law.Call) (ks : List Call) → Read call_is (Err y) n (call_step m)
+    → 0 < length m.rest → AskedSoFar start before ks m → Asked (Err y) start before (map call_is ks)
+asks_bad_by Malformed start m n before ks r some so = asks_stop start m false before ks so (bad some r.0)
+asks_bad_by NoMemory start m n before ks r some so = tt
 
-pub asks_bad : (start m n : Meaning) (ks : List Call) (y : Stop) → y ≡ Malformed → Read call_is (Err y) n (call_step m)
-    → 0 < length m.rest → AskedSoFar start ks m → Asks start (map call_is ks) false
-asks_bad start m n ks y e r some so =
-    let P : Stop → Type 0 = λ x. Read call_is (Err x) n (call_step m) in
-    let q : P Malformed = subst P e r in
-    asks_stop start m ks false so (bad some q.0)
+pub asks_bad : (r : Result (Unit {0}) Stop) (y : Stop) (start m n : Meaning) (before : List Law.Call) (ks : List Call) → IsErrAnd r (λ z. z ≡ y)
+    → Read call_is (Err y) n (call_step m) → 0 < length m.rest → AskedSoFar start before ks m → Asked r start before (map call_is ks)
+asks_bad r y start m n before ks by read some so =
+    let p = err_from_is_err_and r by in
+    rw (p.1, p.2) (asks_bad_by y start m n before ks read some so)
 
 -- records behind those that were read
 abbrev pub behind : List Relocation → List Relocation → Meaning → Step (List Relocation)

@@ -1,5 +1,5 @@
 -- Laws of what is written: the lines one by one, the section as it is opened, and the transcript.
-use Rattle.std.proofs.Common.{◌≡◌, ℕ, ◌+◌, ◌<◌, ◌≤◌, Bool, true, false, cond, List, [], ◌∷◌, ◌++◌, map, length, get_or, drop, IsErrAnd, Err, Result, sym, refl, ap, ◌∙◌, subst, arith}
+use Rattle.std.proofs.Common.{◌≡◌, ℕ, ◌+◌, ◌<◌, ◌≤◌, Bool, true, false, cond, List, [], ◌∷◌, ◌++◌, map, length, get_or, drop, IsErrAnd, Ok, Err, Result, sym, refl, ap, ◌∙◌, subst, arith}
 use Rattle.std.proofs.lemmas.List.{append-nil, append_assoc, drop_more, drop_all}
 use Rattle.std.proofs.lemmas.Result.{err_from_is_err_and}
 use Rattle.std.proofs.lemmas.Bool.{false≢true}
@@ -14,7 +14,7 @@ use Rattle.driver.specs.declared.input.Stop.{Stop}
 use Rattle.driver.specs.declared.input.Stop.TheVariants.{Malformed, NoMemory}
 use Rattle.driver.specs.declared.input.ReaderKind.{ReaderKind}
 use Rattle.lines.specs.Output.{line_of, lines_of}
-use Rattle.driver.specs.Input.{Read, is_fault, Heading, heading_step, heading_is, Asks}
+use Rattle.driver.specs.Input.{Read, is_fault, Heading, heading_step, heading_is, Asks, Asked}
 use Rattle.driver.specs.Transcript.{limit_of, opened_as, opened_by, mark, Walked, Answered, ByHeading, Transcript, Adds, Wrote}
 
 -- a text that was made, and then added
@@ -84,28 +84,28 @@ stopped r y input before m a by e h =
     rw (p.1, p.2) (stopped_by y input before m a e h)
 
 -- a heading, commands and their lines make a transcript
-pub answered : (input before after : List ℕ) (m a : Meaning) (h : Heading) (cs ds : List Call) (complete : Bool) → m ≡ plain 0 input false
-    → (answer h ≡ (heading_step m).outcome) × (a ≡ (heading_step m).after) → Asks a cs complete → ds ≡ cs
-    → Adds before after (Walked (limit_of h.kind) (opened_by h) ds)
+whole : (input before after : List ℕ) (m a : Meaning) (h : Heading) (cs : List Call) (complete : Bool) → m ≡ plain 0 input false
+    → (answer h ≡ (heading_step m).outcome) × (a ≡ (heading_step m).after) → Asks a cs complete
+    → Adds before after (Walked (limit_of h.kind) (opened_by h) cs)
     → Adds before after (λ out. Transcript input (out ++ cond complete [] mark))
-answered input before after m a h cs ds complete e r asks f adds =
-    let P : List Call → Type 0 = λ x. Adds before after (Walked (limit_of h.kind) (opened_by h) x) in
-    let w = subst P f adds in
+whole input before after m a h cs complete e r asks w =
     let out = w.0 ++ cond complete [] mark in
     let given : Answered h a out = record { calls = cs; complete = complete; commands = asks; lines = w.0; walked = w.2; whole = refl } in
     let Q : Outcome Heading → Type 0 = λ o. ByHeading o (heading_step m).after out in
     let R : Meaning → Type 0 = λ z. ByHeading (answer h) z out in
     (w.0, w.1, transcribes input out m e (subst Q r.0 (subst R r.1 given)))
 
-pub completed : (input before after : List ℕ) (complete : Bool) → complete ≡ true
-    → Adds before after (λ out. Transcript input (out ++ cond complete [] mark)) → Adds before after (Transcript input)
-completed input before after complete e w =
-    let P : Bool → Type 0 = λ b. Transcript input (w.0 ++ cond b [] mark) in
+-- the same by how the commands ended, with the calls that were added to none
+pub answered : (r : Result (Unit {0}) Stop) (input before after : List ℕ) (m a : Meaning) (h : Heading) (cs : List Call) → m ≡ plain 0 input false
+    → (answer h ≡ (heading_step m).outcome) × (a ≡ (heading_step m).after) → Asked r a [] cs
+    → Adds before after (Walked (limit_of h.kind) (opened_by h) cs)
+    → Wrote r input before after
+answered (Ok u) input before after m a h cs e r asked walked =
+    let P : List Call → Type 0 = λ x. Adds before after (Walked (limit_of h.kind) (opened_by h) x) in
     let Q : List ℕ → Type 0 = λ out. Transcript input out in
-    (w.0, w.1, subst Q (append-nil w.0) (subst P e w.2))
-
-pub unfinished : (input before after : List ℕ) (complete : Bool) → complete ≡ false
-    → Adds before after (λ out. Transcript input (out ++ cond complete [] mark)) → Adds before after (λ out. Transcript input (out ++ mark))
-unfinished input before after complete e w =
-    let P : Bool → Type 0 = λ b. Transcript input (w.0 ++ cond b [] mark) in
-    (w.0, w.1, subst P e w.2)
+    let w = whole input before after m a h asked.0 true e r asked.2 (subst P asked.1 walked) in
+    (w.0, w.1, subst Q (append-nil w.0) w.2)
+answered (Err Malformed) input before after m a h cs e r asked walked =
+    let P : List Call → Type 0 = λ x. Adds before after (Walked (limit_of h.kind) (opened_by h) x) in
+    whole input before after m a h asked.0 false e r asked.2 (subst P asked.1 walked)
+answered (Err NoMemory) input before after m a h cs e r asked walked = tt

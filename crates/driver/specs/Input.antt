@@ -1,5 +1,5 @@
 -- What the bytes of an input ask for: a reader kind, a byte order, relocation records, a section and commands.
-use Rattle.std.specs.Prelude.{◌≡◌, ℕ, zero, suc, ◌<◌, Bool, true, false, cond, List, [], ◌∷◌, length, Some, None, Ok, Err, vec_items, Option, Result, ◌==◌, nat_le}
+use Rattle.std.specs.Prelude.{◌≡◌, ℕ, zero, suc, ◌<◌, Bool, true, false, cond, List, [], ◌∷◌, ◌++◌, length, Some, None, Ok, Err, vec_items, Option, Result, ◌==◌, nat_le}
 use Rattle.readers.specs.Outcome.{Outcome, answer, fault}
 use Rattle.readers.specs.Reading.{Meaning, Step, fixed, copied, then, gives, refuses}
 use Rattle.readers.specs.Links.{is_big}
@@ -10,7 +10,7 @@ use Rattle.driver.specs.declared.input.Stop.{Stop}
 use Rattle.driver.specs.declared.input.Stop.TheVariants.{Malformed, NoMemory}
 use Rattle.driver.specs.declared.input.ReaderKind.{ReaderKind}
 use Rattle.driver.specs.declared.input.ReaderKind.TheVariants.{EndianSlice, EndianReader, RelocatedSlice, RelocatedReader}
-use Rattle.driver.specs.declared.input.Head.{Head}
+use Rattle.driver.specs.declared.head.Head.{Head}
 use Rattle.driver.specs.declared.input.Command.{Command}
 use Rattle.driver.specs.declared.input.Command.TheVariants.{NextHeader, Entries, Next, NextRaw, Lookup}
 
@@ -29,6 +29,12 @@ Read f (Err NoMemory) after s = Unit {0}
 -- a value that means nothing; 0 is the number of no other fault
 abbrev pub malformed : {A : Type 0} → Meaning → Step A
 malformed m = refuses 0 0 m
+
+-- the reader kind of a number
+abbrev pub kind_for : ℕ → Option ReaderKind
+kind_for n =
+    cond (n == 0) (Some EndianSlice) (cond (n == 1) (Some EndianReader)
+    (cond (n == 2) (Some RelocatedSlice) (cond (n == 3) (Some RelocatedReader) None)))
 
 -- a reader kind, one byte
 abbrev pub a_kind : ℕ → Meaning → Step ReaderKind
@@ -148,3 +154,9 @@ pub data Asks : Meaning → List Call → Bool → Type 0 where
   bad : {m : Meaning} → 0 < length m.rest → is_fault (call_step m).outcome ≡ true → Asks m [] false
   good : {m : Meaning} {c : Call} {cs : List Call} {all : Bool}
       → (call_step m).outcome ≡ answer c → Asks (call_step m).after cs all → Asks m (c ∷ cs) all
+
+-- a call added to a list the calls that the bytes ask for, up to the first bad command, unless it lacked memory
+abbrev pub Asked : Result (Unit {0}) Stop → Meaning → List Call → List Call → Type 0
+Asked (Ok _) m before after = (cs : List Call) × (after ≡ before ++ cs) × Asks m cs true
+Asked (Err Malformed) m before after = (cs : List Call) × (after ≡ before ++ cs) × Asks m cs false
+Asked (Err NoMemory) m before after = Unit {0}
