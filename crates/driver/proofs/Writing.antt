@@ -6,16 +6,13 @@ use Rattle.std.proofs.lemmas.Bool.{false≢true}
 use Rattle.readers.specs.Outcome.{Outcome, answer, fault}
 use Rattle.readers.specs.Reading.{Meaning, plain}
 use Rattle.readers.specs.Sections.{opened}
-use Rattle.relocate.specs.declared.policy.Relocation.{Relocation}
-use Rattle.relocate.specs.Relocating.{by_table, layered}
 use Rattle.walk.specs.Events.{Event}
 use Rattle.calls.specs.Law.{Call}
 use Rattle.driver.specs.declared.input.Stop.{Stop}
 use Rattle.driver.specs.declared.input.Stop.TheVariants.{Malformed, NoMemory}
-use Rattle.driver.specs.declared.input.ReaderKind.{ReaderKind}
 use Rattle.lines.specs.Output.{line_of, lines_of}
 use Rattle.driver.specs.Input.{Read, is_fault, Heading, heading_step, heading_is, Asks, Asked}
-use Rattle.driver.specs.Transcript.{limit_of, opened_as, opened_by, mark, Walked, Answered, ByHeading, Transcript, Adds, Wrote}
+use Rattle.driver.specs.Transcript.{limit_of, opened_by, mark, Walked, Answered, ByHeading, Transcript, Adds, Wrote}
 
 -- a text that was made, and then added
 pub adds_made : (more before text made line : List ℕ) → more ≡ before ++ text → text ≡ made → made ≡ line → more ≡ before ++ line
@@ -42,24 +39,6 @@ lines_all {X = X} ev all before xs i h p =
 pub opens : (fits : Bool) (m : Meaning) (base : ℕ) (bs : List ℕ) (b : Bool) → answer m ≡ opened fits base bs b → m ≡ plain base bs b
 opens true m base bs b e = cc
 opens false m base bs b e = let z : ◌≡◌ {A = ℕ} 0 1 = cc in absurd (omega arith)
-
--- the same under a layer of relocation
-pub layers : (limit : ℕ) (n m : Meaning) (ts rs : List Relocation) (bs : List ℕ) (b : Bool)
-    → n ≡ layered limit (by_table ts) (by_table ts) m.id m → m ≡ plain 0 bs b → ts ≡ rs
-    → n ≡ layered limit (by_table rs) (by_table rs) 0 (plain 0 bs b)
-layers limit n m ts rs bs b e f h =
-    e
-    ∙ ap (λ (x : Meaning). layered limit (by_table ts) (by_table ts) x.id x) f
-    ∙ ap (λ (xs : List Relocation). layered limit (by_table xs) (by_table xs) 0 (plain 0 bs b)) h
-
--- a walk over the section that the kind opens
-pub walked_as : (k j : ReaderKind) (b : Bool) (rs : List Relocation) (bs : List ℕ) (m : Meaning) (cs : List Call) (before after : List ℕ)
-    → k ≡ j → m ≡ opened_as j b rs bs → Adds before after (Walked (limit_of j) m cs)
-    → Adds before after (Walked (limit_of k) (opened_as k b rs bs) cs)
-walked_as k j b rs bs m cs before after e f a =
-    let P : Meaning → Type 0 = λ x. Adds before after (Walked (limit_of j) x cs) in
-    let Q : ReaderKind → Type 0 = λ x. Adds before after (Walked (limit_of x) (opened_as x b rs bs) cs) in
-    subst Q (sym e) (subst P f a)
 
 -- a malformed heading has the mark alone
 by_fault : (o : Outcome Heading) (m : Meaning) → is_fault o ≡ true → ByHeading o m mark

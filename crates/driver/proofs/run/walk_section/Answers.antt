@@ -1,19 +1,9 @@
 -- The lines are added one by one, and the history is that of the answers.
 use Rattle.std.proofs.Common.{◌≡◌, ◌<◌, ◌≤◌, ◌++◌, map, length, vec_items, string_bytes, refl, ap, ◌∙◌, arith}
-use Rattle.std.proofs.lemmas.Result.{IfOk-from_err}
 use Rattle.calls.specs.Links.{event_is}
 use Rattle.lines.specs.Output.{line_of, lines_of}
 use Rattle.driver.proofs.Writing.{adds_made, lines_more, lines_all}
 use Rattle.driver.proofs.run.walk_section.Goals as goal
-
-pub loop-answer-init : goal.loop-answer-init
-loop-answer-init g c = refl
-
-pub returns-in_err-line : goal.returns-in_err-line
-returns-in_err-line g c = IfOk-from_err c.from_residual-in_err-line.result _ c.from_residual-in_err-line.ensures.0
-
-pub returns-in_err-push_str : goal.returns-in_err-push_str
-returns-in_err-push_str g c = IfOk-from_err c.from_residual-in_err-push_str.result _ c.from_residual-in_err-push_str.ensures.0
 
 pub loop-answer-preserved : goal.loop-answer-preserved
 loop-answer-preserved g c =
