@@ -4,6 +4,7 @@ use Rattle.readers.specs.Outcome.{Outcome, answer, fault}
 use Rattle.readers.specs.Reading.{Meaning, Step, fixed, copied, then, gives, refuses}
 use Rattle.readers.specs.Links.{is_big}
 use Rattle.relocate.specs.declared.policy.Relocation.{Relocation}
+use Rattle.relocate.specs.Relocating.{kind_of}
 use Rattle.calls.specs.Law.{Call, next_header, entries_call, next_call, lookup_call}
 use Rattle.aranges.specs.Tuples.{raw, converted}
 use Rattle.driver.specs.declared.input.Stop.{Stop}
@@ -56,7 +57,7 @@ order_step m = then (fixed 1 m) an_order
 
 -- the record of an offset, a kind and an amount
 abbrev pub a_record : ℕ → ℕ → ℕ → Meaning → Step Relocation
-a_record o k v m = gives (record { offset = o; kind = k; amount = v }) m
+a_record o k v m = gives (record { offset = o; kind = kind_of k; amount = v }) m
 
 -- the amount of a record, eight bytes
 abbrev pub from_kind : ℕ → ℕ → Meaning → Step Relocation

@@ -12,7 +12,7 @@ use calls::Call;
 use endian_slice::EndianSlice;
 use numbers::{read_u8, read_u16, read_u32, read_u64};
 use readers::{Error, Reader, RunTimeEndian};
-use relocate::Relocation;
+use relocate::{Relocation, RelocationKind};
 use std::alloc::{AllocError, AllocFailed, Global};
 
 const MAX_RECORDS: u16 = 256;
@@ -80,7 +80,7 @@ fn read_kind(input: &mut EndianSlice) -> Result<ReaderKind, Stop>
     ReaderKind::try_from(read_u8(input)?)
 }
 
-// By hand: RunTimeEndian is the readers' own, where no number stands for it; 0 and 1 are this input's.
+// No TryFrom: RunTimeEndian is another crate's, where no number stands for it, and 0 and 1 are this input's own.
 fn read_order(input: &mut EndianSlice) -> Result<RunTimeEndian, Stop>
     ensures { Read is_big result (slice_means input.new) (order_step (slice_means input.old)) }
 {
@@ -100,6 +100,7 @@ fn read_records(heap: Global, input: &mut EndianSlice) -> Result<Vec<Relocation>
         return Err(Stop::Malformed);
     }
     let mut records = Vec::new(heap);
+    // Tried by map and try_collect: no clause of theirs says where they leave the input, and the proof didn't close.
     for _ in 0..count {
         records.push(read_record(input)?)?;
     }
@@ -110,7 +111,7 @@ fn read_record(input: &mut EndianSlice) -> Result<Relocation, Error>
     ensures { Did (λ x. x) result (slice_means input.new) (record_step (slice_means input.old)) }
 {
     let offset = read_u64(input)?;
-    let kind = read_u8(input)?;
+    let kind = RelocationKind::from(read_u8(input)?);
     let amount = read_u64(input)?;
     Ok(Relocation {
         offset,
