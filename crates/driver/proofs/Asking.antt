@@ -27,9 +27,6 @@ pub record AskedSoFar (start : Meaning) (before : List Law.Call) (ks : List Call
   pub added : map call_is ks ≡ before ++ calls
   pub onward : (cs : List Law.Call) (all : Bool) → Asks m cs all → Asks start (calls ++ cs) all
 
-pub asks_none : (m : Meaning) (ks : List Call) → AskedSoFar m (map call_is ks) ks m
-asks_none m ks = record { calls = []; added = sym (append-nil (map call_is ks)); onward = λ cs all h. h }
-
 pub asks_more : (start m n : Meaning) (before : List Law.Call) (ks ls : List Call) (k : Call) → ls ≡ ks ++ (k ∷ [])
     → Read call_is (Ok k) n (call_step m) → AskedSoFar start before ks m → AskedSoFar start before ls n
 asks_more start m n before ks ls k e r so =

@@ -1,11 +1,10 @@
 -- Laws of what is written: the lines one by one, the section as it is opened, and the transcript.
-use Rattle.std.proofs.Common.{◌≡◌, ℕ, ◌+◌, ◌<◌, ◌≤◌, Bool, true, false, cond, List, [], ◌∷◌, ◌++◌, map, length, get_or, drop, IsErrAnd, Ok, Err, Result, sym, refl, ap, ◌∙◌, subst, arith}
+use Rattle.std.proofs.Common.{◌≡◌, ℕ, ◌+◌, ◌<◌, ◌≤◌, Bool, true, false, cond, List, [], ◌∷◌, ◌++◌, map, length, get_or, drop, IsErrAnd, Ok, Err, Result, sym, refl, ap, ◌∙◌, subst}
 use Rattle.std.proofs.lemmas.List.{append-nil, append_assoc, drop_more, drop_all}
 use Rattle.std.proofs.lemmas.Result.{err_from_is_err_and}
 use Rattle.std.proofs.lemmas.Bool.{false≢true}
 use Rattle.readers.specs.Outcome.{Outcome, answer, fault}
 use Rattle.readers.specs.Reading.{Meaning, plain}
-use Rattle.readers.specs.Sections.{opened}
 use Rattle.walk.specs.Events.{Event}
 use Rattle.calls.specs.Law.{Call}
 use Rattle.driver.specs.declared.input.Stop.{Stop}
@@ -13,10 +12,6 @@ use Rattle.driver.specs.declared.input.Stop.TheVariants.{Malformed, NoMemory}
 use Rattle.lines.specs.Output.{line_of, lines_of}
 use Rattle.driver.specs.Input.{Read, is_fault, Heading, heading_step, heading_is, Asks, Asked}
 use Rattle.driver.specs.Transcript.{limit_of, opened_by, mark, Walked, Answered, ByHeading, Transcript, Adds, Wrote}
-
--- a text that was made, and then added
-pub adds_made : (more before text made line : List ℕ) → more ≡ before ++ text → text ≡ made → made ≡ line → more ≡ before ++ line
-adds_made more before text made line e f h = e ∙ ap (λ (bs : List ℕ). before ++ bs) (f ∙ h)
 
 -- one more line
 pub lines_more : {X : Type 0} (ev : X → Event) (all before more : List ℕ) (x : X) (xs : List X) (i : ℕ) → i < length xs → x ≡ get_or xs i x
@@ -34,11 +29,6 @@ lines_all {X = X} ev all before xs i h p =
     sym (append-nil before)
     ∙ sym (ap (λ (ys : List X). before ++ lines_of (map ev ys)) (drop_all i xs h))
     ∙ p
-
--- what an opened section means
-pub opens : (fits : Bool) (m : Meaning) (base : ℕ) (bs : List ℕ) (b : Bool) → answer m ≡ opened fits base bs b → m ≡ plain base bs b
-opens true m base bs b e = cc
-opens false m base bs b e = let z : ◌≡◌ {A = ℕ} 0 1 = cc in absurd (omega arith)
 
 -- a malformed heading has the mark alone
 by_fault : (o : Outcome Heading) (m : Meaning) → is_fault o ≡ true → ByHeading o m mark
