@@ -39,6 +39,7 @@ fn write_lines(heap: Global, input: &[u8], out: &mut String) -> Result<(), Stop>
     end
 }
 
+// Heap, calls and out stay parameters: a struct of them would be made once, for this and the walk below it.
 fn write_answers(heap: Global, head: &Head, calls: &[Call], out: &mut String) -> Result<(), Stop>
     ensures { Added result (string_bytes out.old) (string_bytes out.new) (Walked (limit_of head.now.kind) (opened_by (heading_is head.now)) (map call_is calls.now)) }
 {
