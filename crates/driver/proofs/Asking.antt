@@ -1,11 +1,9 @@
 -- Laws of what an input asks for: records one by one, and commands one by one.
-use Rattle.std.proofs.Common.{◌≡◌, ℕ, suc, ◌<◌, ◌≤◌, Bool, false, cond, List, [], ◌∷◌, ◌++◌, map, length, IsErrAnd, Ok, Err, Result, sym, refl, ap, ◌∙◌, subst, append_assoc, append-nil}
+use Rattle.std.proofs.Common.{◌≡◌, ℕ, suc, ◌<◌, Bool, false, List, [], ◌∷◌, ◌++◌, map, length, Ok, Err, sym, ap, ◌∙◌, subst, append_assoc, append-nil}
 use mathlib.Core.List.{map-append}
-use Rattle.std.proofs.lemmas.Result.{err_from_is_err_and}
-use Rattle.std.proofs.lemmas.Bool.{le-leb}
 use Rattle.readers.specs.declared.error.Error.{Error}
-use Rattle.readers.specs.Outcome.{Fault, fault}
-use Rattle.readers.specs.Reading.{Meaning, Step, fixed, then, gives}
+use Rattle.readers.specs.Outcome.{fault}
+use Rattle.readers.specs.Reading.{Meaning, Step, then, gives}
 use Rattle.readers.specs.Links.{Did, fault_is}
 use Rattle.readers.proofs.Steps.{ends, then_did, then_refused, then_then, then_same}
 use Rattle.relocate.specs.declared.policy.Relocation.{Relocation}
@@ -14,12 +12,7 @@ use Rattle.calls.specs.Law as Law
 use Rattle.calls.specs.Links.{call_is}
 use Rattle.driver.specs.declared.input.Stop.{Stop}
 use Rattle.driver.specs.declared.input.Stop.TheVariants.{Malformed, NoMemory}
-use Rattle.driver.specs.Input.{Read, malformed, record_step, joined, some_records, from_count, records_step, call_step, Asks, Asked, bad, good}
-
-pub faulted : {A B : Type 0} (f : A → B) (r : Result A Stop) (a : Meaning) (s : Step B) (e : Fault) → IsErrAnd r (λ y. y ≡ Malformed) → s ≡ ends (fault e) a → Read f r a s
-faulted f r a s e by h =
-    let p = err_from_is_err_and r by in
-    rw (p.1, p.2) (rw h (refl, refl))
+use Rattle.driver.specs.Input.{Read, record_step, joined, some_records, call_step, Asks, Asked, bad, good}
 
 -- The calls that were added so far: with what the bytes at m ask for, they are what the whole from `start` asks for.
 pub record AskedSoFar (start : Meaning) (before : List Law.Call) (ks : List Call) (m : Meaning) : Type 0 where
@@ -50,16 +43,10 @@ asks_stop start m all before ks so h =
     let Q : List Law.Call → Type 0 = λ xs. Asks start xs all in
     (so.calls, so.added, subst Q (append-nil so.calls) (so.onward [] all h))
 
-asks_bad_by : (y : Stop) (start m n : Meaning) (before : List Law.Call) (ks : List Call) → Read call_is (Err y) n (call_step m)
+pub asks_bad : (y : Stop) (start m n : Meaning) (before : List Law.Call) (ks : List Call) → Read call_is (Err y) n (call_step m)
     → 0 < length m.rest → AskedSoFar start before ks m → Asked (Err y) start before (map call_is ks)
-asks_bad_by Malformed start m n before ks r some so = asks_stop start m false before ks so (bad some r.0)
-asks_bad_by NoMemory start m n before ks r some so = tt
-
-pub asks_bad : (r : Result (Unit {0}) Stop) (y : Stop) (start m n : Meaning) (before : List Law.Call) (ks : List Call) → IsErrAnd r (λ z. z ≡ y)
-    → Read call_is (Err y) n (call_step m) → 0 < length m.rest → AskedSoFar start before ks m → Asked r start before (map call_is ks)
-asks_bad r y start m n before ks by read some so =
-    let p = err_from_is_err_and r by in
-    rw (p.1, p.2) (asks_bad_by y start m n before ks read some so)
+asks_bad Malformed start m n before ks r some so = asks_stop start m false before ks so (bad some r.0)
+asks_bad NoMemory start m n before ks r some so = tt
 
 -- records behind those that were read
 abbrev pub behind : List Relocation → List Relocation → Meaning → Step (List Relocation)
@@ -87,9 +74,3 @@ many_refused whole n k rs e m a f d so =
     sym so
     ∙ ap (λ (j : ℕ). then (some_records j m) (behind rs)) f
     ∙ ap (λ (t : Step (List Relocation)). then t (behind rs)) (then_refused (λ x z. then (some_records k z) (joined x)) d)
-
--- the number of records, and what follows it
-pub counted : (n : ℕ) (m a : Meaning) → Did (λ x. x) (Ok n) a (fixed 2 m) → n ≤ 256 → records_step m ≡ some_records n a
-counted n m a d small =
-    then_did from_count d
-    ∙ ap (λ (b : Bool). cond b (some_records n a) (malformed a)) (le-leb n 256 small)

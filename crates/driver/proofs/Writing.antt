@@ -1,7 +1,6 @@
 -- Laws of what is written: the lines one by one, the section as it is opened, and the transcript.
-use Rattle.std.proofs.Common.{◌≡◌, ℕ, ◌+◌, ◌<◌, ◌≤◌, Bool, true, false, cond, List, [], ◌∷◌, ◌++◌, map, length, get_or, drop, IsErrAnd, Ok, Err, Result, sym, refl, ap, ◌∙◌, subst}
+use Rattle.std.proofs.Common.{◌≡◌, ℕ, ◌+◌, ◌<◌, ◌≤◌, Bool, true, false, cond, List, [], ◌∷◌, ◌++◌, map, length, get_or, drop, Ok, Err, Result, sym, refl, ap, ◌∙◌, subst}
 use Rattle.std.proofs.lemmas.List.{append-nil, append_assoc, drop_more, drop_all}
-use Rattle.std.proofs.lemmas.Result.{err_from_is_err_and}
 use Rattle.std.proofs.lemmas.Bool.{false≢true}
 use Rattle.readers.specs.Outcome.{Outcome, answer, fault}
 use Rattle.readers.specs.Reading.{Meaning, plain}
@@ -40,17 +39,11 @@ transcribes input out m e h =
     let P : Meaning → Type 0 = λ n. ByHeading (heading_step n).outcome (heading_step n).after out in
     subst P e h
 
-stopped_by : (y : Stop) (input before : List ℕ) (m a : Meaning) → m ≡ plain 0 input false → Read heading_is (Err y) a (heading_step m)
+pub stopped : (y : Stop) (input before : List ℕ) (m a : Meaning) → m ≡ plain 0 input false → Read heading_is (Err y) a (heading_step m)
     → Wrote (Err y) input before before
-stopped_by Malformed input before m a e r =
+stopped Malformed input before m a e r =
     ([], sym (append-nil before), transcribes input mark m e (by_fault (heading_step m).outcome (heading_step m).after r.0))
-stopped_by NoMemory input before m a e r = tt
-
-pub stopped : (r : Result (Unit {0}) Stop) (y : Stop) (input before : List ℕ) (m a : Meaning) → IsErrAnd r (λ z. z ≡ y) → m ≡ plain 0 input false
-    → Read heading_is (Err y) a (heading_step m) → Wrote r input before before
-stopped r y input before m a by e h =
-    let p = err_from_is_err_and r by in
-    rw (p.1, p.2) (stopped_by y input before m a e h)
+stopped NoMemory input before m a e r = tt
 
 -- a heading, commands and their lines make a transcript
 whole : (input before after : List ℕ) (m a : Meaning) (h : Heading) (cs : List Call) (complete : Bool) → m ≡ plain 0 input false

@@ -34,6 +34,7 @@ fn write_lines(heap: Global, input: &[u8], out: &mut String) -> Result<(), Stop>
     let mut input = EndianSlice::new(input, 0, RunTimeEndian::Little)?;
     let head = read_head(heap, &mut input)?;
     let mut calls = Vec::new(heap);
+    // the calls in front of a bad command are answered too
     let end = read_commands(input, &mut calls);
     write_answers(heap, &head, &calls, out)?;
     end

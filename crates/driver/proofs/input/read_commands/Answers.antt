@@ -1,5 +1,5 @@
 -- One more call, the first bad command, and the end.
-use Rattle.std.proofs.Common.{◌≡◌, ◌<◌, true, map, length, vec_items, arith}
+use Rattle.std.proofs.Common.{rules, ◌≡◌, ◌<◌, true, map, length, vec_items, arith}
 use Rattle.endian_slice.specs.Means.{slice_means}
 use Rattle.calls.specs.Links.{call_is}
 use Rattle.driver.specs.Input.{end}
@@ -14,8 +14,11 @@ loop-input-preserved c =
 pub returns-in_err-read_call : goal.returns-in_err-read_call
 returns-in_err-read_call c =
     let some : 0 < length (slice_means c.loop-input.input).rest = omega (arith, c.len.ensures) in
-    asks_bad c.from_residual.result c.in_err-read_call.field-0.0 (slice_means c.args.input) (slice_means c.loop-input.input) (slice_means c.read_call.new.input) (map call_is (vec_items c.args.calls.now)) (vec_items c.loop-input.calls)
-    c.from_residual.ensures.1 c.in_err-read_call.ensures.read some c.loop-input.invariant
+    let e =
+    asks_bad c.in_err-read_call.field-0.0 (slice_means c.args.input) (slice_means c.loop-input.input) (slice_means c.read_call.new.input) (map call_is (vec_items c.args.calls.now)) (vec_items c.loop-input.calls)
+    c.in_err-read_call.ensures.read some c.loop-input.invariant
+    in
+    search rules
 
 pub returns : goal.returns
 returns c =

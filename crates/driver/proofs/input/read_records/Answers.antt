@@ -1,9 +1,8 @@
 -- The records one by one: one more, and a record that is cut short.
-use Rattle.std.proofs.Common.{◌≡◌, suc, ◌+◌, ◌-◌, vec_items, ◌∙◌, arith}
-use Rattle.readers.specs.Links.{fault_is}
+use Rattle.std.proofs.Common.{rules, ◌≡◌, suc, ◌+◌, ◌-◌, vec_items, arith}
 use Rattle.endian_slice.specs.Means.{slice_means}
-use Rattle.driver.specs.Input.{records_step, some_records}
-use Rattle.driver.proofs.Asking.{faulted, many_more, many_refused, counted}
+use Rattle.driver.specs.Input.{some_records}
+use Rattle.driver.proofs.Asking.{many_more, many_refused}
 use Rattle.driver.proofs.input.read_records.Goals as goal
 
 pub loop-preserved : goal.loop-preserved
@@ -20,10 +19,9 @@ returns-in_err-read_record c =
     let n = c.in_ok-count.count in
     let i = c.loop.counter in
     let less : n - i ≡ suc (n - (i + 1)) = omega arith in
-    let m = slice_means c.args.input.now in
     let a = slice_means c.read_u16.new.reader in
-    faulted vec_items c.from_residual-in_err-read_record.result (slice_means c.read_record.new.input) (records_step m)
-    (fault_is c.in_err-read_record.field-0.0) c.from_residual-in_err-read_record.ensures.1
-    (counted n m a c.in_ok-count.ensures c.if-count-gt-MAX_RECORDS.false
-    ∙ many_refused (some_records n a) (n - i) (n - (i + 1)) (vec_items c.loop.records) c.in_err-read_record.field-0.0 (slice_means c.loop.input)
-    (slice_means c.read_record.new.input) less c.in_err-read_record.ensures c.loop.invariant)
+    let e =
+    many_refused (some_records n a) (n - i) (n - (i + 1)) (vec_items c.loop.records) c.in_err-read_record.field-0.0 (slice_means c.loop.input)
+    (slice_means c.read_record.new.input) less c.in_err-read_record.ensures c.loop.invariant
+    in
+    search rules

@@ -12,8 +12,8 @@ returns-in_err-head c =
     let bs = c.args.input.now in
     let m = slice_means c.in_ok-input.input in
     let e : m ≡ plain 0 bs false = search rules in
-    stopped c.from_residual-in_err-head.result c.in_err-head.field-0.0 bs (string_bytes c.args.out.now) m (slice_means c.read_head.new.input)
-    c.from_residual-in_err-head.ensures.1 e c.in_err-head.ensures
+    let w = stopped c.in_err-head.field-0.0 bs (string_bytes c.args.out.now) m (slice_means c.read_head.new.input) e c.in_err-head.ensures in
+    search rules
 
 pub returns : goal.returns
 returns c =
