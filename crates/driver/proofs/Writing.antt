@@ -1,25 +1,16 @@
 -- Laws of what is written: the lines one by one, the section as it is opened, and the transcript.
-use Rattle.std.proofs.Common.{◌≡◌, ℕ, ◌+◌, ◌<◌, ◌≤◌, Bool, true, false, cond, List, [], ◌∷◌, ◌++◌, map, length, get_or, drop, IsErrAnd, Err, Result, sym, refl, ap, ◌∙◌, subst, arith}
+use Rattle.std.proofs.Common.{◌≡◌, ℕ, ◌+◌, ◌<◌, ◌≤◌, Bool, true, false, cond, List, [], ◌∷◌, ◌++◌, map, length, get_or, drop, Ok, Err, Result, sym, refl, ap, ◌∙◌, subst}
 use Rattle.std.proofs.lemmas.List.{append-nil, append_assoc, drop_more, drop_all}
-use Rattle.std.proofs.lemmas.Result.{err_from_is_err_and}
 use Rattle.std.proofs.lemmas.Bool.{false≢true}
 use Rattle.readers.specs.Outcome.{Outcome, answer, fault}
 use Rattle.readers.specs.Reading.{Meaning, plain}
-use Rattle.readers.specs.Sections.{opened}
-use Rattle.relocate.specs.declared.policy.Relocation.{Relocation}
-use Rattle.relocate.specs.Relocating.{by_table, layered}
 use Rattle.walk.specs.Events.{Event}
 use Rattle.calls.specs.Law.{Call}
 use Rattle.driver.specs.declared.input.Stop.{Stop}
 use Rattle.driver.specs.declared.input.Stop.TheVariants.{Malformed, NoMemory}
-use Rattle.driver.specs.declared.input.ReaderKind.{ReaderKind}
 use Rattle.lines.specs.Output.{line_of, lines_of}
-use Rattle.driver.specs.Input.{Read, is_fault, Heading, heading_step, heading_is, Asks}
-use Rattle.driver.specs.Transcript.{limit_of, opened_as, opened_by, mark, Walked, Answered, ByHeading, Transcript, Adds, Wrote}
-
--- a text that was made, and then added
-pub adds_made : (more before text made line : List ℕ) → more ≡ before ++ text → text ≡ made → made ≡ line → more ≡ before ++ line
-adds_made more before text made line e f h = e ∙ ap (λ (bs : List ℕ). before ++ bs) (f ∙ h)
+use Rattle.driver.specs.Input.{Read, is_fault, Heading, heading_step, heading_is, Asks, Asked}
+use Rattle.driver.specs.Transcript.{limit_of, opened_by, mark, Walked, Answered, ByHeading, Transcript, Adds, Wrote}
 
 -- one more line
 pub lines_more : {X : Type 0} (ev : X → Event) (all before more : List ℕ) (x : X) (xs : List X) (i : ℕ) → i < length xs → x ≡ get_or xs i x
@@ -38,29 +29,6 @@ lines_all {X = X} ev all before xs i h p =
     ∙ sym (ap (λ (ys : List X). before ++ lines_of (map ev ys)) (drop_all i xs h))
     ∙ p
 
--- what an opened section means
-pub opens : (fits : Bool) (m : Meaning) (base : ℕ) (bs : List ℕ) (b : Bool) → answer m ≡ opened fits base bs b → m ≡ plain base bs b
-opens true m base bs b e = cc
-opens false m base bs b e = let z : ◌≡◌ {A = ℕ} 0 1 = cc in absurd (omega arith)
-
--- the same under a layer of relocation
-pub layers : (limit : ℕ) (n m : Meaning) (ts rs : List Relocation) (bs : List ℕ) (b : Bool)
-    → n ≡ layered limit (by_table ts) (by_table ts) m.id m → m ≡ plain 0 bs b → ts ≡ rs
-    → n ≡ layered limit (by_table rs) (by_table rs) 0 (plain 0 bs b)
-layers limit n m ts rs bs b e f h =
-    e
-    ∙ ap (λ (x : Meaning). layered limit (by_table ts) (by_table ts) x.id x) f
-    ∙ ap (λ (xs : List Relocation). layered limit (by_table xs) (by_table xs) 0 (plain 0 bs b)) h
-
--- a walk over the section that the kind opens
-pub walked_as : (k j : ReaderKind) (b : Bool) (rs : List Relocation) (bs : List ℕ) (m : Meaning) (cs : List Call) (before after : List ℕ)
-    → k ≡ j → m ≡ opened_as j b rs bs → Adds before after (Walked (limit_of j) m cs)
-    → Adds before after (Walked (limit_of k) (opened_as k b rs bs) cs)
-walked_as k j b rs bs m cs before after e f a =
-    let P : Meaning → Type 0 = λ x. Adds before after (Walked (limit_of j) x cs) in
-    let Q : ReaderKind → Type 0 = λ x. Adds before after (Walked (limit_of x) (opened_as x b rs bs) cs) in
-    subst Q (sym e) (subst P f a)
-
 -- a malformed heading has the mark alone
 by_fault : (o : Outcome Heading) (m : Meaning) → is_fault o ≡ true → ByHeading o m mark
 by_fault (answer h) m e = absurd (false≢true e)
@@ -71,41 +39,35 @@ transcribes input out m e h =
     let P : Meaning → Type 0 = λ n. ByHeading (heading_step n).outcome (heading_step n).after out in
     subst P e h
 
-stopped_by : (y : Stop) (input before : List ℕ) (m a : Meaning) → m ≡ plain 0 input false → Read heading_is (Err y) a (heading_step m)
+pub stopped : (y : Stop) (input before : List ℕ) (m a : Meaning) → m ≡ plain 0 input false → Read heading_is (Err y) a (heading_step m)
     → Wrote (Err y) input before before
-stopped_by Malformed input before m a e r =
+stopped Malformed input before m a e r =
     ([], sym (append-nil before), transcribes input mark m e (by_fault (heading_step m).outcome (heading_step m).after r.0))
-stopped_by NoMemory input before m a e r = tt
-
-pub stopped : (r : Result (Unit {0}) Stop) (y : Stop) (input before : List ℕ) (m a : Meaning) → IsErrAnd r (λ z. z ≡ y) → m ≡ plain 0 input false
-    → Read heading_is (Err y) a (heading_step m) → Wrote r input before before
-stopped r y input before m a by e h =
-    let p = err_from_is_err_and r by in
-    rw (p.1, p.2) (stopped_by y input before m a e h)
+stopped NoMemory input before m a e r = tt
 
 -- a heading, commands and their lines make a transcript
-pub answered : (input before after : List ℕ) (m a : Meaning) (h : Heading) (cs ds : List Call) (complete : Bool) → m ≡ plain 0 input false
-    → (answer h ≡ (heading_step m).outcome) × (a ≡ (heading_step m).after) → Asks a cs complete → ds ≡ cs
-    → Adds before after (Walked (limit_of h.kind) (opened_by h) ds)
+whole : (input before after : List ℕ) (m a : Meaning) (h : Heading) (cs : List Call) (complete : Bool) → m ≡ plain 0 input false
+    → (answer h ≡ (heading_step m).outcome) × (a ≡ (heading_step m).after) → Asks a cs complete
+    → Adds before after (Walked (limit_of h.kind) (opened_by h) cs)
     → Adds before after (λ out. Transcript input (out ++ cond complete [] mark))
-answered input before after m a h cs ds complete e r asks f adds =
-    let P : List Call → Type 0 = λ x. Adds before after (Walked (limit_of h.kind) (opened_by h) x) in
-    let w = subst P f adds in
+whole input before after m a h cs complete e r asks w =
     let out = w.0 ++ cond complete [] mark in
     let given : Answered h a out = record { calls = cs; complete = complete; commands = asks; lines = w.0; walked = w.2; whole = refl } in
     let Q : Outcome Heading → Type 0 = λ o. ByHeading o (heading_step m).after out in
     let R : Meaning → Type 0 = λ z. ByHeading (answer h) z out in
     (w.0, w.1, transcribes input out m e (subst Q r.0 (subst R r.1 given)))
 
-pub completed : (input before after : List ℕ) (complete : Bool) → complete ≡ true
-    → Adds before after (λ out. Transcript input (out ++ cond complete [] mark)) → Adds before after (Transcript input)
-completed input before after complete e w =
-    let P : Bool → Type 0 = λ b. Transcript input (w.0 ++ cond b [] mark) in
+-- the same by how the commands ended, with the calls that were added to none
+pub answered : (r : Result (Unit {0}) Stop) (input before after : List ℕ) (m a : Meaning) (h : Heading) (cs : List Call) → m ≡ plain 0 input false
+    → (answer h ≡ (heading_step m).outcome) × (a ≡ (heading_step m).after) → Asked r a [] cs
+    → Adds before after (Walked (limit_of h.kind) (opened_by h) cs)
+    → Wrote r input before after
+answered (Ok u) input before after m a h cs e r asked walked =
+    let P : List Call → Type 0 = λ x. Adds before after (Walked (limit_of h.kind) (opened_by h) x) in
     let Q : List ℕ → Type 0 = λ out. Transcript input out in
-    (w.0, w.1, subst Q (append-nil w.0) (subst P e w.2))
-
-pub unfinished : (input before after : List ℕ) (complete : Bool) → complete ≡ false
-    → Adds before after (λ out. Transcript input (out ++ cond complete [] mark)) → Adds before after (λ out. Transcript input (out ++ mark))
-unfinished input before after complete e w =
-    let P : Bool → Type 0 = λ b. Transcript input (w.0 ++ cond b [] mark) in
-    (w.0, w.1, subst P e w.2)
+    let w = whole input before after m a h asked.0 true e r asked.2 (subst P asked.1 walked) in
+    (w.0, w.1, subst Q (append-nil w.0) w.2)
+answered (Err Malformed) input before after m a h cs e r asked walked =
+    let P : List Call → Type 0 = λ x. Adds before after (Walked (limit_of h.kind) (opened_by h) x) in
+    whole input before after m a h asked.0 false e r asked.2 (subst P asked.1 walked)
+answered (Err NoMemory) input before after m a h cs e r asked walked = tt

@@ -1,16 +1,17 @@
 -- What the bytes of an input ask for: a reader kind, a byte order, relocation records, a section and commands.
-use Rattle.std.specs.Prelude.{◌≡◌, ℕ, zero, suc, ◌<◌, Bool, true, false, cond, List, [], ◌∷◌, length, Some, None, Ok, Err, vec_items, Option, Result, ◌==◌, nat_le}
+use Rattle.std.specs.Prelude.{◌≡◌, ℕ, zero, suc, ◌<◌, Bool, true, false, cond, List, [], ◌∷◌, ◌++◌, length, Some, None, Ok, Err, vec_items, Option, Result, ◌==◌, nat_le}
 use Rattle.readers.specs.Outcome.{Outcome, answer, fault}
 use Rattle.readers.specs.Reading.{Meaning, Step, fixed, copied, then, gives, refuses}
 use Rattle.readers.specs.Links.{is_big}
 use Rattle.relocate.specs.declared.policy.Relocation.{Relocation}
+use Rattle.relocate.specs.Relocating.{kind_of}
 use Rattle.calls.specs.Law.{Call, next_header, entries_call, next_call, lookup_call}
 use Rattle.aranges.specs.Tuples.{raw, converted}
 use Rattle.driver.specs.declared.input.Stop.{Stop}
 use Rattle.driver.specs.declared.input.Stop.TheVariants.{Malformed, NoMemory}
 use Rattle.driver.specs.declared.input.ReaderKind.{ReaderKind}
 use Rattle.driver.specs.declared.input.ReaderKind.TheVariants.{EndianSlice, EndianReader, RelocatedSlice, RelocatedReader}
-use Rattle.driver.specs.declared.input.Head.{Head}
+use Rattle.driver.specs.declared.head.Head.{Head}
 use Rattle.driver.specs.declared.input.Command.{Command}
 use Rattle.driver.specs.declared.input.Command.TheVariants.{NextHeader, Entries, Next, NextRaw, Lookup}
 
@@ -29,6 +30,12 @@ Read f (Err NoMemory) after s = Unit {0}
 -- a value that means nothing; 0 is the number of no other fault
 abbrev pub malformed : {A : Type 0} → Meaning → Step A
 malformed m = refuses 0 0 m
+
+-- the reader kind of a number
+abbrev pub kind_for : ℕ → Option ReaderKind
+kind_for n =
+    cond (n == 0) (Some EndianSlice) (cond (n == 1) (Some EndianReader)
+    (cond (n == 2) (Some RelocatedSlice) (cond (n == 3) (Some RelocatedReader) None)))
 
 -- a reader kind, one byte
 abbrev pub a_kind : ℕ → Meaning → Step ReaderKind
@@ -50,7 +57,7 @@ order_step m = then (fixed 1 m) an_order
 
 -- the record of an offset, a kind and an amount
 abbrev pub a_record : ℕ → ℕ → ℕ → Meaning → Step Relocation
-a_record o k v m = gives (record { offset = o; kind = k; amount = v }) m
+a_record o k v m = gives (record { offset = o; kind = kind_of k; amount = v }) m
 
 -- the amount of a record, eight bytes
 abbrev pub from_kind : ℕ → ℕ → Meaning → Step Relocation
@@ -148,3 +155,9 @@ pub data Asks : Meaning → List Call → Bool → Type 0 where
   bad : {m : Meaning} → 0 < length m.rest → is_fault (call_step m).outcome ≡ true → Asks m [] false
   good : {m : Meaning} {c : Call} {cs : List Call} {all : Bool}
       → (call_step m).outcome ≡ answer c → Asks (call_step m).after cs all → Asks m (c ∷ cs) all
+
+-- a call added to a list the calls that the bytes ask for, up to the first bad command, unless it lacked memory
+abbrev pub Asked : Result (Unit {0}) Stop → Meaning → List Call → List Call → Type 0
+Asked (Ok _) m before after = (cs : List Call) × (after ≡ before ++ cs) × Asks m cs true
+Asked (Err Malformed) m before after = (cs : List Call) × (after ≡ before ++ cs) × Asks m cs false
+Asked (Err NoMemory) m before after = Unit {0}

@@ -1,22 +1,24 @@
 // rangewalk's input: reader kind, byte order, relocation records, and commands.
 ghost use Rattle.std.specs.Prelude.{◌≡◌, ◌^◌, ◌<◌, map, length, IfOk, IfErr, vec_items, OnOk};
+ghost use Rattle.std.specs.Option.{ok_or};
 ghost use Rattle.readers.specs.Links.{Did, is_big};
 ghost use Rattle.endian_slice.specs.Means.{slice_means};
 ghost use Rattle.calls.specs.Links.{call_is};
 ghost use Rattle.driver.specs.declared.input.Stop.TheVariants.{Malformed, NoMemory};
-ghost use Rattle.driver.specs.Input.{Read, Asks, kind_step, order_step, record_step, records_step, section_step, heading_is, heading_step, command_for, call_step};
+ghost use Rattle.driver.specs.Input.{Read, Asked, kind_for, kind_step, order_step, record_step, records_step, section_step, heading_is, heading_step, command_for, call_step};
 
+use crate::head::Head;
 use calls::Call;
 use endian_slice::EndianSlice;
 use numbers::{read_u8, read_u16, read_u32, read_u64};
 use readers::{Error, Reader, RunTimeEndian};
-use relocate::Relocation;
+use relocate::{Relocation, RelocationKind};
 use std::alloc::{AllocError, AllocFailed, Global};
 
 const MAX_RECORDS: u16 = 256;
 
 /// Why the reading of an input ended early.
-#[derive(Clone, Copy)]
+#[derive(Clone, Copy, PartialEq, Eq, Debug)]
 pub enum Stop {
     /// The input is cut short, or has a letter or a value that means nothing.
     Malformed,
@@ -48,7 +50,7 @@ impl<T: Drop> From<AllocFailed<T>> for Stop {
 }
 
 /// Which reader the section is opened with.
-#[derive(Clone, Copy)]
+#[derive(Clone, Copy, PartialEq, Eq, Debug)]
 pub enum ReaderKind {
     EndianSlice,
     EndianReader,
@@ -56,18 +58,29 @@ pub enum ReaderKind {
     RelocatedReader,
 }
 
-fn read_kind(input: &mut EndianSlice) -> Result<ReaderKind, Stop>
-    ensures { Read (λ x. x) result (slice_means input.new) (kind_step (slice_means input.old)) }
-{
-    match read_u8(input)? {
-        0 => Ok(ReaderKind::EndianSlice),
-        1 => Ok(ReaderKind::EndianReader),
-        2 => Ok(ReaderKind::RelocatedSlice),
-        3 => Ok(ReaderKind::RelocatedReader),
-        _ => Err(Stop::Malformed),
+impl TryFrom<u8> for ReaderKind {
+    type Error = Stop;
+
+    ghost try_from_gives = { λ n r. r ≡ ok_or (kind_for n) Malformed };
+
+    fn try_from(number: u8) -> Result<ReaderKind, Stop> {
+        match number {
+            0 => Ok(ReaderKind::EndianSlice),
+            1 => Ok(ReaderKind::EndianReader),
+            2 => Ok(ReaderKind::RelocatedSlice),
+            3 => Ok(ReaderKind::RelocatedReader),
+            _ => Err(Stop::Malformed),
+        }
     }
 }
 
+fn read_kind(input: &mut EndianSlice) -> Result<ReaderKind, Stop>
+    ensures { Read (λ x. x) result (slice_means input.new) (kind_step (slice_means input.old)) }
+{
+    ReaderKind::try_from(read_u8(input)?)
+}
+
+// No TryFrom: RunTimeEndian is another crate's, where no number stands for it, and 0 and 1 are this input's own.
 fn read_order(input: &mut EndianSlice) -> Result<RunTimeEndian, Stop>
     ensures { Read is_big result (slice_means input.new) (order_step (slice_means input.old)) }
 {
@@ -87,6 +100,7 @@ fn read_records(heap: Global, input: &mut EndianSlice) -> Result<Vec<Relocation>
         return Err(Stop::Malformed);
     }
     let mut records = Vec::new(heap);
+    // Tried by map and try_collect: no clause of theirs says where they leave the input, and the proof didn't close.
     for _ in 0..count {
         records.push(read_record(input)?)?;
     }
@@ -97,7 +111,7 @@ fn read_record(input: &mut EndianSlice) -> Result<Relocation, Error>
     ensures { Did (λ x. x) result (slice_means input.new) (record_step (slice_means input.old)) }
 {
     let offset = read_u64(input)?;
-    let kind = read_u8(input)?;
+    let kind = RelocationKind::from(read_u8(input)?);
     let amount = read_u64(input)?;
     Ok(Relocation {
         offset,
@@ -116,18 +130,8 @@ fn read_section<'a>(input: &mut EndianSlice<'a>) -> Result<&'a [u8], Error>
     Ok(section.slice())
 }
 
-/// What an input says before its commands.
-#[derive(Drop)]
-pub struct Head<'a> {
-    pub kind: ReaderKind,
-    pub endian: RunTimeEndian,
-    pub records: Vec<Relocation>,
-    pub section: &'a [u8],
-}
-
 pub fn read_head<'a>(heap: Global, input: &mut EndianSlice<'a>) -> Result<Head<'a>, Stop>
-    ensures read { Read heading_is result (slice_means input.new) (heading_step (slice_means input.old)) }
-    ensures short { IfOk result (λ h. length h.section.now < 2 ^ 32) }
+    ensures { Read heading_is result (slice_means input.new) (heading_step (slice_means input.old)) }
 {
     let kind = read_kind(input)?;
     let endian = read_order(input)?;
@@ -142,7 +146,8 @@ pub fn read_head<'a>(heap: Global, input: &mut EndianSlice<'a>) -> Result<Head<'
 }
 
 /// What a command letter stands for.
-#[derive(Clone, Copy)]
+// No twin of Call: the letter alone names a command, and a lookup's address is no part of it.
+#[derive(Clone, Copy, PartialEq, Eq, Debug)]
 pub enum Command {
     NextHeader,
     Entries,
@@ -152,45 +157,31 @@ pub enum Command {
     Lookup,
 }
 
-fn command_of(letter: char) -> Option<Command>
-    ensures { result ≡ command_for letter }
-{
-    match letter {
-        'H' => Some(Command::NextHeader),
-        'E' => Some(Command::Entries),
-        'N' => Some(Command::Next),
-        'R' => Some(Command::NextRaw),
-        'L' => Some(Command::Lookup),
-        _ => None,
-    }
-}
+impl TryFrom<char> for Command {
+    type Error = Stop;
 
-/// The calls up to the first bad command, and whether there was none.
-#[derive(Drop)]
-pub struct Commands {
-    pub calls: Vec<Call>,
-    pub complete: bool,
-}
+    ghost try_from_gives = { λ l r. r ≡ ok_or (command_for l) Malformed };
 
-pub fn read_commands(heap: Global, mut input: EndianSlice) -> Result<Commands, AllocError>
-    ensures { IfOk result (λ c. Asks (slice_means input.entry) (map call_is c.calls.items) c.complete) }
-{
-    let mut calls = Vec::new(heap);
-    while input.len() > 0 {
-        match read_call(&mut input) {
-            Ok(call) => calls.push(call)?,
-            Err(_) => {
-                return Ok(Commands {
-                    calls,
-                    complete: false,
-                });
-            }
+    fn try_from(letter: char) -> Result<Command, Stop> {
+        match letter {
+            'H' => Ok(Command::NextHeader),
+            'E' => Ok(Command::Entries),
+            'N' => Ok(Command::Next),
+            'R' => Ok(Command::NextRaw),
+            'L' => Ok(Command::Lookup),
+            _ => Err(Stop::Malformed),
         }
     }
-    Ok(Commands {
-        calls,
-        complete: true,
-    })
+}
+
+/// Adds the calls that the commands ask for, up to the first bad command.
+pub fn read_commands(mut input: EndianSlice, calls: &mut Vec<Call>) -> Result<(), Stop>
+    ensures { Asked result (slice_means input.entry) (map call_is calls.old.items) (map call_is calls.new.items) }
+{
+    while input.len() > 0 {
+        calls.push(read_call(&mut input)?)?;
+    }
+    Ok(())
 }
 
 fn read_call(input: &mut EndianSlice) -> Result<Call, Stop>
@@ -199,12 +190,11 @@ fn read_call(input: &mut EndianSlice) -> Result<Call, Stop>
     ensures shorter { OnOk result (length (slice_means input.new).rest < length (slice_means input.old).rest) }
 {
     let letter = read_u8(input)?;
-    match command_of(letter as char) {
-        Some(Command::NextHeader) => Ok(Call::NextHeader),
-        Some(Command::Entries) => Ok(Call::Entries),
-        Some(Command::Next) => Ok(Call::Next),
-        Some(Command::NextRaw) => Ok(Call::NextRaw),
-        Some(Command::Lookup) => Ok(Call::Lookup(read_u64(input)?)),
-        None => Err(Stop::Malformed),
+    match Command::try_from(letter as char)? {
+        Command::NextHeader => Ok(Call::NextHeader),
+        Command::Entries => Ok(Call::Entries),
+        Command::Next => Ok(Call::Next),
+        Command::NextRaw => Ok(Call::NextRaw),
+        Command::Lookup => Ok(Call::Lookup(read_u64(input)?)),
     }
 }

@@ -1,6 +1,7 @@
 // What rangewalk does with its input: reads a section and commands, makes the calls, writes a line for each answer.
 #![tactic(auto)]
 
+mod head;
 mod input;
 mod run;
 

@@ -4,13 +4,12 @@ ghost use Rattle.calls.specs.Links.{call_is};
 ghost use Rattle.driver.specs.Input.{heading_is};
 ghost use Rattle.driver.specs.Transcript.{limit_of, opened_by, Walked, Transcript, Adds, Added, Wrote};
 
-use crate::input::{Head, ReaderKind, Stop, read_commands, read_head};
+use crate::head::Head;
+use crate::input::{ReaderKind, Stop, read_commands, read_head};
 use calls::{Call, answer_calls};
-use endian_reader::EndianReader;
 use endian_slice::EndianSlice;
 use lines::line;
 use readers::{AddressReader, Reader, RunTimeEndian};
-use relocate::{RelocateReader, RelocationTable};
 use std::alloc::{AllocError, Global};
 
 /// As much of an input as is read.
@@ -34,37 +33,25 @@ fn write_lines(heap: Global, input: &[u8], out: &mut String) -> Result<(), Stop>
 {
     let mut input = EndianSlice::new(input, 0, RunTimeEndian::Little)?;
     let head = read_head(heap, &mut input)?;
-    let commands = read_commands(heap, input)?;
-    write_answers(heap, &head, &commands.calls, out)?;
-    if commands.complete {
-        Ok(())
-    } else {
-        Err(Stop::Malformed)
-    }
+    let mut calls = Vec::new(heap);
+    // the calls in front of a bad command are answered too
+    let end = read_commands(input, &mut calls);
+    write_answers(heap, &head, &calls, out)?;
+    end
 }
 
+// Heap, calls and out stay parameters: a struct of them would be made once, for this and the walk below it.
 fn write_answers(heap: Global, head: &Head, calls: &[Call], out: &mut String) -> Result<(), Stop>
-    requires { length head.now.section.now < 2 ^ 32 }
     ensures { Added result (string_bytes out.old) (string_bytes out.new) (Walked (limit_of head.now.kind) (opened_by (heading_is head.now)) (map call_is calls.now)) }
 {
     match head.kind {
-        ReaderKind::EndianSlice => {
-            let reader = EndianSlice::new(head.section, 0, head.endian)?;
-            walk_section(heap, reader, calls, out)?;
-        }
-        ReaderKind::EndianReader => {
-            let reader = EndianReader::new(head.section, 0, head.endian)?;
-            walk_section(heap, reader, calls, out)?;
-        }
+        ReaderKind::EndianSlice => walk_section(heap, head.slice()?, calls, out)?,
+        ReaderKind::EndianReader => walk_section(heap, head.reader()?, calls, out)?,
         ReaderKind::RelocatedSlice => {
-            let reader = EndianSlice::new(head.section, 0, head.endian)?;
-            let table = RelocationTable::new(&head.records);
-            walk_section(heap, RelocateReader::new(reader, table), calls, out)?;
+            walk_section(heap, head.relocated(head.slice()?), calls, out)?
         }
         ReaderKind::RelocatedReader => {
-            let reader = EndianReader::new(head.section, 0, head.endian)?;
-            let table = RelocationTable::new(&head.records);
-            walk_section(heap, RelocateReader::new(reader, table), calls, out)?;
+            walk_section(heap, head.relocated(head.reader()?), calls, out)?
         }
     }
     Ok(())
@@ -79,7 +66,7 @@ fn walk_section<R: AddressReader>(
     ensures { OnOk result (Adds (string_bytes out.old) (string_bytes out.new) (Walked R.Offset.ReaderOffset.limit (R.Reader.means section) (map call_is calls.now))) }
 {
     let answers = answer_calls(heap, section, calls)?;
-    for answer in answers.iter() {
+    for answer in &answers {
         let line = line(heap, answer)?;
         out.push_str(line.as_str())?;
     }

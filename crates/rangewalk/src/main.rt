@@ -9,6 +9,6 @@ fn main(rt: HostRuntime) -> io::Result<()> {
     let heap = rt.alloc();
     let mut input = Vec::new(heap);
     rt.stdin().take(MAX_INPUT).read_to_end(&mut input)?;
-    let output = transcript(heap, input.as_slice())?;
+    let output = transcript(heap, &input)?;
     rt.print(output)
 }

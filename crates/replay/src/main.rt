@@ -12,7 +12,7 @@ fn main(rt: HostRuntime) -> io::Result<()> {
     for line in BufReader::new(heap, rt.stdin())?.lines(heap) {
         let line = line?;
         let input = decode(heap, line.as_bytes())?;
-        let output = transcript(heap, input.as_slice())?;
+        let output = transcript(heap, &input)?;
         rt.print(output)?;
         rt.println("=")?;
     }

@@ -1,15 +1,12 @@
-use Rattle.std.proofs.Common.{Bool, List, ◌++◌, map, length, vec_items}
+use Rattle.std.proofs.Common.{map, length, vec_items}
 use Rattle.endian_slice.specs.Means.{slice_means}
-use Rattle.calls.specs.Law.{Call}
 use Rattle.calls.specs.Links.{call_is}
-use Rattle.driver.specs.Input.{Asks}
+use Rattle.driver.proofs.Asking.{AskedSoFar}
 use Rattle.driver.proofs.input.read_commands.Given as goal
 
 -- the calls so far, and then those that the bytes left ask for, are what all the bytes ask for
 abbrev pub invariant-loop-input : goal.invariant-loop-input
-invariant-loop-input l =
-    (cs : List Call) (all : Bool) → Asks (slice_means l.input) cs all
-    → Asks (slice_means l.initial.input) (map call_is (vec_items l.calls) ++ cs) all
+invariant-loop-input l = AskedSoFar (slice_means l.initial.input) (map call_is (vec_items l.initial.calls)) (vec_items l.calls) (slice_means l.input)
 
 abbrev pub decreases-loop-input : goal.decreases-loop-input
 decreases-loop-input l = length (slice_means l.input).rest

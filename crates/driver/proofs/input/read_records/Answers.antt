@@ -1,16 +1,9 @@
--- The records one by one: none yet, one more, a record that is cut short, no memory, and the last.
-use Rattle.std.proofs.Common.{◌≡◌, suc, ◌+◌, ◌-◌, vec_items, ◌∙◌, arith}
-use Rattle.readers.specs.Links.{fault_is}
+-- The records one by one: one more, and a record that is cut short.
+use Rattle.std.proofs.Common.{rules, ◌≡◌, suc, ◌+◌, ◌-◌, vec_items, arith}
 use Rattle.endian_slice.specs.Means.{slice_means}
-use Rattle.driver.specs.Input.{records_step, some_records}
-use Rattle.driver.proofs.Asking.{gave, faulted, unsaid, many_begin, many_more, many_refused, many_end, counted}
+use Rattle.driver.specs.Input.{some_records}
+use Rattle.driver.proofs.Asking.{many_more, many_refused}
 use Rattle.driver.proofs.input.read_records.Goals as goal
-
-pub loop-init : goal.loop-init
-loop-init c =
-    let n = c.in_ok-count.count in
-    let all : n - 0 ≡ n = omega arith in
-    many_begin n (n - 0) (vec_items c.new-records.result) (slice_means c.read_u16.new.reader) all c.new-records.ensures.items
 
 pub loop-preserved : goal.loop-preserved
 loop-preserved c =
@@ -26,26 +19,9 @@ returns-in_err-read_record c =
     let n = c.in_ok-count.count in
     let i = c.loop.counter in
     let less : n - i ≡ suc (n - (i + 1)) = omega arith in
-    let m = slice_means c.args.input.now in
     let a = slice_means c.read_u16.new.reader in
-    faulted vec_items c.from_residual-in_err-read_record.result (slice_means c.read_record.new.input) (records_step m)
-    (fault_is c.in_err-read_record.field-0.0) c.from_residual-in_err-read_record.ensures.1
-    (counted n m a c.in_ok-count.ensures c.if-count-gt-MAX_RECORDS.false
-    ∙ many_refused (some_records n a) (n - i) (n - (i + 1)) (vec_items c.loop.records) c.in_err-read_record.field-0.0 (slice_means c.loop.input)
-    (slice_means c.read_record.new.input) less c.in_err-read_record.ensures c.loop.invariant)
-
-pub returns-in_err-push : goal.returns-in_err-push
-returns-in_err-push c =
-    unsaid vec_items c.from_residual-in_err-push.result (slice_means c.read_record.new.input) (records_step (slice_means c.args.input.now))
-    c.from_residual-in_err-push.ensures.1
-
-pub returns : goal.returns
-returns c =
-    let n = c.in_ok-count.count in
-    let i = c.loop.counter in
-    let none : n - i ≡ 0 = omega arith in
-    let m = slice_means c.args.input.now in
-    let a = slice_means c.read_u16.new.reader in
-    gave vec_items c.loop.records (slice_means c.loop.input) (records_step m)
-    (counted n m a c.in_ok-count.ensures c.if-count-gt-MAX_RECORDS.false
-    ∙ many_end (some_records n a) (n - i) (vec_items c.loop.records) (slice_means c.loop.input) none c.loop.invariant)
+    let e =
+    many_refused (some_records n a) (n - i) (n - (i + 1)) (vec_items c.loop.records) c.in_err-read_record.field-0.0 (slice_means c.loop.input)
+    (slice_means c.read_record.new.input) less c.in_err-read_record.ensures c.loop.invariant
+    in
+    search rules

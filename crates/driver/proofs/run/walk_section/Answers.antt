@@ -1,19 +1,9 @@
 -- The lines are added one by one, and the history is that of the answers.
 use Rattle.std.proofs.Common.{◌≡◌, ◌<◌, ◌≤◌, ◌++◌, map, length, vec_items, string_bytes, refl, ap, ◌∙◌, arith}
-use Rattle.std.proofs.lemmas.Result.{IfOk-from_err}
 use Rattle.calls.specs.Links.{event_is}
 use Rattle.lines.specs.Output.{line_of, lines_of}
-use Rattle.driver.proofs.Writing.{adds_made, lines_more, lines_all}
+use Rattle.driver.proofs.Writing.{lines_more, lines_all}
 use Rattle.driver.proofs.run.walk_section.Goals as goal
-
-pub loop-answer-init : goal.loop-answer-init
-loop-answer-init g c = refl
-
-pub returns-in_err-line : goal.returns-in_err-line
-returns-in_err-line g c = IfOk-from_err c.from_residual-in_err-line.result _ c.from_residual-in_err-line.ensures.0
-
-pub returns-in_err-push_str : goal.returns-in_err-push_str
-returns-in_err-push_str g c = IfOk-from_err c.from_residual-in_err-push_str.result _ c.from_residual-in_err-push_str.ensures.0
 
 pub loop-answer-preserved : goal.loop-answer-preserved
 loop-answer-preserved g c =
@@ -23,10 +13,7 @@ loop-answer-preserved g c =
     let x = c.answer-item.result in
     let was = string_bytes c.loop-answer.out in
     let h : i < length xs = omega arith in
-    let e : string_bytes c.push_str.new.self ≡ was ++ line_of (ev x) =
-    adds_made (string_bytes c.push_str.new.self) was c.as_str.result.now (string_bytes c.in_ok-line.line) (line_of (ev x))
-    c.in_ok-push_str.ensures.bytes c.as_str.ensures.value c.in_ok-line.ensures
-    in
+    let e : string_bytes c.push_str.new.self ≡ was ++ line_of (ev x) = cc (c.in_ok-line.ensures, c.as_str.ensures.value, c.in_ok-push_str.ensures.bytes) in
     lines_more ev (string_bytes c.args.out.now ++ lines_of (map ev xs)) was (string_bytes c.push_str.new.self) x xs i h c.answer-item.is e c.loop-answer.invariant
 
 pub returns : goal.returns
