@@ -1,17 +1,14 @@
 // What an input says before its commands, and the section opened as it says.
-ghost use Rattle.std.specs.Prelude.{◌≡◌, ◌^◌, ◌<◌, length, vec_items};
-ghost use Rattle.readers.specs.Outcome.{answer};
-ghost use Rattle.readers.specs.Reading.{plain};
+ghost use Rattle.std.specs.Prelude.{◌≡◌, ◌^◌, ◌<◌, length, nat_lt, vec_items};
+ghost use Rattle.readers.specs.Sections.{opened};
 ghost use Rattle.readers.specs.Links.{is_big, outcome_is};
 ghost use Rattle.relocate.specs.Relocating.{by_table, layered};
-ghost use Rattle.endian_slice.specs.Means.{slice_means};
-ghost use Rattle.endian_reader.specs.Means.{reader_means};
+ghost use Rattle.section_reader.specs.Means.{section_means};
 
 use crate::input::ReaderKind;
-use endian_reader::EndianReader;
-use endian_slice::EndianSlice;
-use readers::{Error, Reader, RunTimeEndian};
+use readers::{Error, Reader, ReaderOffset, RunTimeEndian};
 use relocate::{RelocateReader, Relocation, RelocationTable};
+use section_reader::SectionReader;
 
 /// What an input says before its commands.
 #[derive(Drop)]
@@ -25,18 +22,11 @@ pub struct Head<'a> {
 }
 
 impl<'a> Head<'a> {
-    /// The section with offsets of usize; it is never refused.
-    pub fn slice(&self) -> Result<EndianSlice<'a>, Error>
-        ensures { outcome_is slice_means result ≡ answer (plain 0 self.now.section.now (is_big self.now.endian)) }
+    /// The section with offsets of some kind; one that can tell its length is never refused.
+    pub fn open<O: ReaderOffset>(&self) -> Result<SectionReader<'a, O>, Error>
+        ensures { outcome_is section_means result ≡ opened (nat_lt (length self.now.section.now) O.ReaderOffset.limit) 0 self.now.section.now (is_big self.now.endian) }
     {
-        EndianSlice::new(self.section, 0, self.endian)
-    }
-
-    /// The section with offsets of u32; it is never refused.
-    pub fn reader(&self) -> Result<EndianReader<'a>, Error>
-        ensures { outcome_is reader_means result ≡ answer (plain 0 self.now.section.now (is_big self.now.endian)) }
-    {
-        EndianReader::new(self.section, 0, self.endian)
+        SectionReader::new(self.section, 0, self.endian)
     }
 
     /// A reader of the section, relocated by the records.

@@ -2,17 +2,17 @@
 ghost use Rattle.std.specs.Prelude.{◌≡◌, ◌^◌, ◌<◌, map, length, IfOk, IfErr, vec_items, OnOk};
 ghost use Rattle.std.specs.Option.{ok_or};
 ghost use Rattle.readers.specs.Links.{Did, is_big};
-ghost use Rattle.endian_slice.specs.Means.{slice_means};
+ghost use Rattle.section_reader.specs.Means.{section_means};
 ghost use Rattle.calls.specs.Links.{call_is};
 ghost use Rattle.driver.specs.declared.input.Stop.TheVariants.{Malformed, NoMemory};
 ghost use Rattle.driver.specs.Input.{Read, Asked, kind_for, kind_step, order_step, record_step, records_step, section_step, heading_is, heading_step, command_for, call_step};
 
 use crate::head::Head;
 use calls::Call;
-use endian_slice::EndianSlice;
 use numbers::{read_u8, read_u16, read_u32, read_u64};
 use readers::{Error, Reader, RunTimeEndian};
 use relocate::{Relocation, RelocationKind};
+use section_reader::EndianSlice;
 use std::alloc::{AllocError, AllocFailed, Global};
 
 const MAX_RECORDS: u16 = 256;
@@ -75,14 +75,14 @@ impl TryFrom<u8> for ReaderKind {
 }
 
 fn read_kind(input: &mut EndianSlice) -> Result<ReaderKind, Stop>
-    ensures { Read (λ x. x) result (slice_means input.new) (kind_step (slice_means input.old)) }
+    ensures { Read (λ x. x) result (section_means input.new) (kind_step (section_means input.old)) }
 {
     ReaderKind::try_from(read_u8(input)?)
 }
 
 // No TryFrom: RunTimeEndian is another crate's, where no number stands for it, and 0 and 1 are this input's own.
 fn read_order(input: &mut EndianSlice) -> Result<RunTimeEndian, Stop>
-    ensures { Read is_big result (slice_means input.new) (order_step (slice_means input.old)) }
+    ensures { Read is_big result (section_means input.new) (order_step (section_means input.old)) }
 {
     match read_u8(input)? {
         0 => Ok(RunTimeEndian::Little),
@@ -93,7 +93,7 @@ fn read_order(input: &mut EndianSlice) -> Result<RunTimeEndian, Stop>
 
 /// The number of records, and the records.
 fn read_records(heap: Global, input: &mut EndianSlice) -> Result<Vec<Relocation>, Stop>
-    ensures { Read vec_items result (slice_means input.new) (records_step (slice_means input.old)) }
+    ensures { Read vec_items result (section_means input.new) (records_step (section_means input.old)) }
 {
     let count = read_u16(input)?;
     if count > MAX_RECORDS {
@@ -108,7 +108,7 @@ fn read_records(heap: Global, input: &mut EndianSlice) -> Result<Vec<Relocation>
 }
 
 fn read_record(input: &mut EndianSlice) -> Result<Relocation, Error>
-    ensures { Did (λ x. x) result (slice_means input.new) (record_step (slice_means input.old)) }
+    ensures { Did (λ x. x) result (section_means input.new) (record_step (section_means input.old)) }
 {
     let offset = read_u64(input)?;
     let kind = RelocationKind::from(read_u8(input)?);
@@ -122,7 +122,7 @@ fn read_record(input: &mut EndianSlice) -> Result<Relocation, Error>
 
 // The section's length, and its bytes.
 fn read_section<'a>(input: &mut EndianSlice<'a>) -> Result<&'a [u8], Error>
-    ensures read { Did (λ x. x.now) result (slice_means input.new) (section_step (slice_means input.old)) }
+    ensures read { Did (λ x. x.now) result (section_means input.new) (section_step (section_means input.old)) }
     ensures short { IfOk result (λ s. length s.now < 2 ^ 32) }
 {
     let length = read_u32(input)? as usize;
@@ -131,7 +131,7 @@ fn read_section<'a>(input: &mut EndianSlice<'a>) -> Result<&'a [u8], Error>
 }
 
 pub fn read_head<'a>(heap: Global, input: &mut EndianSlice<'a>) -> Result<Head<'a>, Stop>
-    ensures { Read heading_is result (slice_means input.new) (heading_step (slice_means input.old)) }
+    ensures { Read heading_is result (section_means input.new) (heading_step (section_means input.old)) }
 {
     let kind = read_kind(input)?;
     let endian = read_order(input)?;
@@ -176,7 +176,7 @@ impl TryFrom<char> for Command {
 
 /// Adds the calls that the commands ask for, up to the first bad command.
 pub fn read_commands(mut input: EndianSlice, calls: &mut Vec<Call>) -> Result<(), Stop>
-    ensures { Asked result (slice_means input.entry) (map call_is calls.old.items) (map call_is calls.new.items) }
+    ensures { Asked result (section_means input.entry) (map call_is calls.old.items) (map call_is calls.new.items) }
 {
     while input.len() > 0 {
         calls.push(read_call(&mut input)?)?;
@@ -185,9 +185,9 @@ pub fn read_commands(mut input: EndianSlice, calls: &mut Vec<Call>) -> Result<()
 }
 
 fn read_call(input: &mut EndianSlice) -> Result<Call, Stop>
-    ensures read { Read call_is result (slice_means input.new) (call_step (slice_means input.old)) }
+    ensures read { Read call_is result (section_means input.new) (call_step (section_means input.old)) }
     ensures malformed { IfErr result (λ e. e ≡ Malformed) }
-    ensures shorter { OnOk result (length (slice_means input.new).rest < length (slice_means input.old).rest) }
+    ensures shorter { OnOk result (length (section_means input.new).rest < length (section_means input.old).rest) }
 {
     let letter = read_u8(input)?;
     match Command::try_from(letter as char)? {

@@ -7,9 +7,9 @@ ghost use Rattle.driver.specs.Transcript.{limit_of, opened_by, Walked, Transcrip
 use crate::head::Head;
 use crate::input::{ReaderKind, Stop, read_commands, read_head};
 use calls::{Call, answer_calls};
-use endian_slice::EndianSlice;
 use lines::line;
 use readers::{AddressReader, Reader, RunTimeEndian};
+use section_reader::EndianSlice;
 use std::alloc::{AllocError, Global};
 
 /// As much of an input as is read.
@@ -45,13 +45,13 @@ fn write_answers(heap: Global, head: &Head, calls: &[Call], out: &mut String) ->
     ensures { Added result (string_bytes out.old) (string_bytes out.new) (Walked (limit_of head.now.kind) (opened_by (heading_is head.now)) (map call_is calls.now)) }
 {
     match head.kind {
-        ReaderKind::EndianSlice => walk_section(heap, head.slice()?, calls, out)?,
-        ReaderKind::EndianReader => walk_section(heap, head.reader()?, calls, out)?,
+        ReaderKind::EndianSlice => walk_section(heap, head.open::<usize>()?, calls, out)?,
+        ReaderKind::EndianReader => walk_section(heap, head.open::<u32>()?, calls, out)?,
         ReaderKind::RelocatedSlice => {
-            walk_section(heap, head.relocated(head.slice()?), calls, out)?
+            walk_section(heap, head.relocated(head.open::<usize>()?), calls, out)?
         }
         ReaderKind::RelocatedReader => {
-            walk_section(heap, head.relocated(head.reader()?), calls, out)?
+            walk_section(heap, head.relocated(head.open::<u32>()?), calls, out)?
         }
     }
     Ok(())

@@ -1,6 +1,6 @@
-use Rattle.std.proofs.Common.{Some, arith}
+use Rattle.std.proofs.Common.{arith}
 use Rattle.aranges.specs.Links.{header_is}
-use Rattle.walk.proofs.Looks.{looks_shorter, in_arm}
+use Rattle.walk.proofs.Looks.{looks_shorter}
 use Rattle.mallethill.proofs.sum_of_headers.Goals as goal
 
 pub loop-header-smaller : goal.loop-header-smaller
@@ -9,5 +9,4 @@ loop-header-smaller g c =
     let m = g.R.Reader.means c.loop-header.headers.input in
     let a = g.R.Reader.means c.next.new.self.input in
     let s = c.loop-header.headers.start in
-    let d = in_arm f g.R.Offset.ReaderOffset.limit s m a c.in-Ok-Some.field-0 (Some c.in-Ok-Some.header) c.in-Ok-Some.field-0-is c.in-Ok-Some.ensures.did in
-    omega (arith, looks_shorter f g.R.Offset.ReaderOffset.limit s m a c.in-Ok-Some.header d)
+    omega (arith, looks_shorter f g.R.Offset.ReaderOffset.limit s m a c.in-Ok-Some.field-0 c.in-Ok-Some.header c.in-Ok-Some.field-0-is c.in-Ok-Some.ensures.did)
