@@ -1,5 +1,5 @@
 -- The tuples of a walk one by one: what the first left says of `first`.
-use Rattle.std.proofs.Common.{◌≡◌, ℕ, suc, ◌+◌, ◌-◌, ◌*◌, ◌/◌, ◌<◌, ◌≤◌, Bool, true, false, cond, eqb, leb, ◌⊎◌, length, take, IsErrAnd, Ok, Err, Option, Result, sym, refl, ap, ◌∙◌, subst, inl, inr, add_assoc, add-one, arith, length-drop, drop-drop}
+use Rattle.std.proofs.Common.{◌≡◌, ℕ, suc, ◌+◌, ◌*◌, ◌/◌, ◌<◌, ◌≤◌, Bool, true, false, cond, eqb, leb, ◌⊎◌, length, take, IsErrAnd, Ok, Err, Option, Result, sym, refl, ap, ◌∙◌, subst, inl, inr, add_assoc, add-one, arith, length-drop, drop-drop}
 use native.Mathlib.Nat.{div-eq_of_lt, div-eq-sub-div, div-zero}
 use Rattle.std.proofs.lemmas.Bool.{ne_eqb, and_right}
 use Rattle.std.proofs.lemmas.Result.{err_from_is_err_and}
@@ -151,12 +151,6 @@ module _ (s : ℕ) (m : Meaning) (z : 0 < 2 * s) (h : 2 * s ≤ length m.rest) w
   draw_refused k x after d =
       ap (as_left s) (first_here k s m (refused (fault_is x)) z h (two_faulted s m (fault_is x) (sym d.answers) k))
       ∙ sym (ap (λ (a : Meaning). (failed (fault_is x), left s (emptied a))) d.leaves)
-
-  pub two_shorter : (b l : ℕ) (after : Meaning) → Did (λ x. x) (Ok (b, l)) after (two s m) → length after.rest < length m.rest
-  two_shorter b l after d =
-      let t = two_answered s m b l (sym d.answers) in
-      let e : length after.rest ≡ length m.rest - 2 * s = ap (λ (a : Meaning). length a.rest) (d.leaves ∙ t.0) ∙ length-drop (2 * s) m.rest in
-      omega arith
 
 -- the tests of a null pair
 pub null_of : (b l : ℕ) → b ≡ 0 → l ≡ 0 → is_null b l ≡ true

@@ -20,7 +20,7 @@ pub data Ahead (limit : ℕ) (m a : Meaning) (p : ℕ) : List Header → ℕ →
   off : a.rest ≡ [] → Ahead limit m a p [] (length m.rest)
 
 never : {h : Header} {f : Fault} (o : Outcome Header) → o ≡ answer h → o ≡ fault f → ⊥
-never o x y = let z : ◌≡◌ {A = ℕ} 0 1 = cc in omega arith
+never o x y = cc
 
 module _ (limit : ℕ) (m : Meaning) (w : Walk) where
   -- the three answers of next header, each with what the walk has left
@@ -93,7 +93,7 @@ module _ (limit : ℕ) (m : Meaning) (w : Walk) where
 
   by_end : {hs : List Header} {q : ℕ} (os : List (Outcome (Option Header))) → length w.ahead.rest ≡ 0 → Ahead limit m w.ahead w.place hs q → hs ≡ [] → length m.rest ≤ q → Heads limit m hs q os → ByHeads (record { event = header (answer None); walk = w }) os
   by_end os l a e b stop = tt
-  by_end os l a e b (head r) = let z : ◌≡◌ {A = ℕ} 0 1 = cc in absurd (omega arith)
+  by_end os l a e b (head r) = cc
   by_end os l a e b (bad x y r) = absurd (omega arith)
   by_end os l a e b (end {q = q} x r) = record { is = refl; sets = []; place = q; ahead = a; others = r }
 
@@ -104,13 +104,13 @@ module _ (limit : ℕ) (m : Meaning) (w : Walk) where
       let same : g ≡ h = cc o.is in
       let sets : gs ≡ o.more = cc o.is in
       record { is = ap (λ (x : Header). header (answer (Some x))) same; sets = o.more; place = q; ahead = o.ahead; others = subst (λ (xs : List Header). Heads limit m xs q more) sets r }
-  by_head h os o (bad x y r) = let z : ◌≡◌ {A = ℕ} 0 1 = cc o.is in absurd (omega arith)
-  by_head h os o (end x r) = let z : ◌≡◌ {A = ℕ} 0 1 = cc o.is in absurd (omega arith)
+  by_head h os o (bad x y r) = cc o.is
+  by_head h os o (end x r) = cc o.is
 
   by_bad : {hs : List Header} {q : ℕ} (f : Fault) (os : List (Outcome (Option Header))) → hs ≡ [] → q < length m.rest → header_at limit m q ≡ fault f → Heads limit m hs q os
       → ByHeads (record { event = header (fault f); walk = record { whole = w.whole; ahead = emptied w.ahead; place = w.place; newest = w.newest; left = w.left } }) os
   by_bad f os e l x stop = tt
-  by_bad f os e l x (head r) = let z : ◌≡◌ {A = ℕ} 0 1 = cc in absurd (omega arith)
+  by_bad f os e l x (head r) = cc
   by_bad f os e l x (bad {f = g} y z r) =
       let same : g ≡ f = cc in
       record { is = ap (λ (v : Fault). header (fault v)) same; sets = []; place = length m.rest; ahead = off refl; others = r }

@@ -22,9 +22,6 @@ use Rattle.calls.proofs.LawEarly.{agree_looks}
 use Rattle.calls.proofs.LawLaw.{keeps_law}
 use Rattle.calls.proofs.LawPins.{is_replay, pins_answers}
 
-no_way : {A : Type 0} → ◌≡◌ {A = ℕ} 0 1 → A
-no_way z = absurd (omega arith)
-
 -- headers of one set in the two sections
 abbrev Mated : ℕ → Header → Header → Type 0
 Mated p g k = (g ≡ k) ⊎ ((g.place ≡ p) × (k.place ≡ p) × Alike g k)
@@ -333,8 +330,8 @@ module _ (limit : ℕ) (m m2 : Meaning) (p : ℕ) (two : Two limit m m2 p) where
 
   agree_at : (cs : List Call) (b b2 : List Event) (e e2 : Event) (a a2 pre : List Event) (w w2 : Walk) → Sim pre w w2
       → replay_from limit w cs ≡ b ++ (e ∷ a) → replay_from limit w2 cs ≡ b2 ++ (e2 ∷ a2) → length b2 ≡ length b → Agrees p (pre ++ b) e e2
-  agree_at [] [] b2 e e2 a a2 pre w w2 i x y l = no_way cc
-  agree_at [] (d ∷ ds) b2 e e2 a a2 pre w w2 i x y l = no_way cc
+  agree_at [] [] b2 e e2 a a2 pre w w2 i x y l = cc
+  agree_at [] (d ∷ ds) b2 e e2 a a2 pre w w2 i x y l = cc
   agree_at (c ∷ cs) [] [] e e2 a a2 pre w w2 i x y l =
       let u : (step limit c w).event ≡ e = cc in
       let v : (step limit c w2).event ≡ e2 = cc in

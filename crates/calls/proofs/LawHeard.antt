@@ -80,12 +80,12 @@ raw_never s m e = go (address s m).outcome (address s (past s m)).outcome e
     none b l = go2 (eqb b 0 && eqb l 0)
       where
         go2 : (c : Bool) → cond c nothing (entry (record { begin = b; end = 0; length = l })) ≡ overflow → ⊥
-        go2 true e = let z : ◌≡◌ {A = ℕ} 0 1 = cc in omega arith
-        go2 false e = let z : ◌≡◌ {A = ℕ} 0 1 = cc in omega arith
+        go2 true e = cc
+        go2 false e = cc
 
     go : (o o2 : Outcome ℕ) → (elim o [ answer b ↦ elim o2 [ answer l ↦ pair raw s b l | fault f ↦ refused f ] | fault f ↦ refused f ]) ≡ overflow → ⊥
-    go (fault f) o2 e = let z : ◌≡◌ {A = ℕ} 0 1 = cc in omega arith
-    go (answer b) (fault f) e = let z : ◌≡◌ {A = ℕ} 0 1 = cc in omega arith
+    go (fault f) o2 e = cc
+    go (answer b) (fault f) e = cc
     go (answer b) (answer l) e = none b l e
 
 pub silent_push : (k : Kind) (s : ℕ) (xs : List Meaning) (t : Meaning) → Silent k s xs → tuple k s t ≡ nothing → Silent k s (xs ++ (t ∷ []))

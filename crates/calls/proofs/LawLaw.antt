@@ -21,9 +21,6 @@ use Rattle.calls.proofs.LawAhead.{Ahead, on, heads_kept}
 abbrev twelve : Told
 twelve = failed (record { number = 12; payload = 0 })
 
-no_way : {A : Type 0} → ◌≡◌ {A = ℕ} 0 1 → A
-no_way z = absurd (omega arith)
-
 module _ (limit : ℕ) (m : Meaning) where
   -- a place in what the machine answers
   record At (pre before : List Event) (e : Event) (after : List Event) : Type 0 where
@@ -35,8 +32,8 @@ module _ (limit : ℕ) (m : Meaning) where
     rest : after ≡ replay_from limit (step limit asks walk).walk later
 
   at_split : (cs : List Call) (before : List Event) (e : Event) (after pre : List Event) (w : Walk) → Inv m pre w → replay_from limit w cs ≡ before ++ (e ∷ after) → At pre before e after
-  at_split [] [] e after pre w i x = no_way cc
-  at_split [] (b ∷ bs) e after pre w i x = no_way cc
+  at_split [] [] e after pre w i x = cc
+  at_split [] (b ∷ bs) e after pre w i x = cc
   at_split (c ∷ cs) [] e after pre w i x = record
       { asks = c; walk = w; inv = subst (λ (es : List Event). Inv m es w) (sym (append-nil pre)) i; is = cc; later = cs; rest = cc }
   at_split (c ∷ cs) (b ∷ bs) e after pre w i x =
@@ -48,28 +45,28 @@ module _ (limit : ℕ) (m : Meaning) where
 
   -- the answers of entries
   entries_is : {before : List Event} {w : Walk} {c : Call} {t : Turn} (o : Outcome (Unit {0})) → Inv m before w → Turned limit w c t → entries o ≡ t.event → o ≡ entered (latest before)
-  entries_is o i (ended x) e = no_way cc
-  entries_is o i (heads h x y) e = no_way cc
-  entries_is o i (breaks f x y) e = no_way cc
+  entries_is o i (ended x) e = cc
+  entries_is o i (heads h x y) e = cc
+  entries_is o i (breaks f x y) e = cc
   entries_is o i (enters h x) e = let y : o ≡ answer tt = cc in y ∙ ap entered (sym x ∙ i.last)
   entries_is o i (headless x) e = let y : o ≡ fault_of 12 0 = cc in y ∙ ap entered (sym x ∙ i.last)
-  entries_is o i (tells k l x) e = no_way cc
-  entries_is o i (shut k x) e = no_way cc
-  entries_is o i (looks a) e = no_way cc
+  entries_is o i (tells k l x) e = cc
+  entries_is o i (shut k x) e = cc
+  entries_is o i (looks a) e = cc
 
   -- the answers of next and next raw before entries
   shut_is : {before : List Event} {w : Walk} {c : Call} {t : Turn} (k : Kind) (a : Told) → Inv m before w → Turned limit w c t → told k a ≡ t.event → opened before ≡ false → a ≡ twelve
-  shut_is k a i (ended x) e p = no_way cc
-  shut_is k a i (heads h x y) e p = no_way cc
-  shut_is k a i (breaks f x y) e p = no_way cc
-  shut_is k a i (enters h x) e p = no_way cc
-  shut_is k a i (headless x) e p = no_way cc
+  shut_is k a i (ended x) e p = cc
+  shut_is k a i (heads h x y) e p = cc
+  shut_is k a i (breaks f x y) e p = cc
+  shut_is k a i (enters h x) e p = cc
+  shut_is k a i (headless x) e p = cc
   shut_is {before} k a i (tells j l x) e p =
       let o : On before l = subst (λ (v : Option Left). Opened before v) x i.set in
       let q : opened before ≡ true = ap opened o.split ∙ opened_by o.earlier o.since in
-      no_way cc
+      cc
   shut_is k a i (shut j x) e p = cc
-  shut_is k a i (looks y) e p = no_way cc
+  shut_is k a i (looks y) e p = cc
 
   -- the answers of next and next raw on a set
   reads_turn : {w : Walk} {c : Call} {t : Turn} (l : Left) (ds : List Event) → Turned limit w c t → w.left ≡ Some l → Unreset (t.event ∷ ds)
@@ -87,13 +84,13 @@ module _ (limit : ℕ) (m : Meaning) where
       let r2 : Reads l2.size (tuples_at l2.size l2.tuples) ((j, (first j l2.size (count l2.size l2.tuples) l2.tuples).0) ∷ asked ds)
       = subst (λ (a : Told). Reads l2.size (tuples_at l2.size l2.tuples) ((j, a) ∷ asked ds)) (sym (first_heard j l2.size (count l2.size l2.tuples) l2.tuples refl)) r in
       subst (λ (v : Left). Reads v.size (tuples_at v.size v.tuples) ((j, (first j l2.size (count l2.size l2.tuples) l2.tuples).0) ∷ asked ds)) same r2
-  reads_turn l ds (shut j x) e u k = no_way cc
+  reads_turn l ds (shut j x) e u k = cc
   reads_turn l ds (looks a) e u k = k l e u
 
   reads_replay : (during : List Event) (cs : List Call) (after : List Event) (w : Walk) (l : Left) → w.left ≡ Some l → replay_from limit w cs ≡ during ++ after → Unreset during
       → Reads l.size (tuples_at l.size l.tuples) (asked during)
   reads_replay [] cs after w l e x u = done
-  reads_replay (d ∷ ds) [] after w l e x u = no_way cc
+  reads_replay (d ∷ ds) [] after w l e x u = cc
   reads_replay (d ∷ ds) (c ∷ cs) after w l e x u =
       let same : (step limit c w).event ≡ d = cc in
       let more : replay_from limit (step limit c w).walk cs ≡ ds ++ after = cc in
@@ -102,24 +99,24 @@ module _ (limit : ℕ) (m : Meaning) where
 
   set_is : {before : List Event} {w : Walk} {c : Call} {t : Turn} (h : Header) → Inv m before w → Turned limit w c t → entries (answer tt) ≡ t.event → latest before ≡ Some h
       → t.walk.left ≡ Some (record { size = h.size; tuples = h.tuples })
-  set_is h i (ended x) e p = no_way cc
-  set_is h i (heads g x y) e p = no_way cc
-  set_is h i (breaks f x y) e p = no_way cc
+  set_is h i (ended x) e p = cc
+  set_is h i (heads g x y) e p = cc
+  set_is h i (breaks f x y) e p = cc
   set_is {w = w} h i (enters g x) e p = let s : w.newest ≡ Some h = i.last ∙ p in let same : g ≡ h = cc in ap (λ (v : Header). Some (record { size = v.size; tuples = v.tuples })) same
-  set_is h i (headless x) e p = no_way cc
-  set_is h i (tells k l x) e p = no_way cc
-  set_is h i (shut k x) e p = no_way cc
-  set_is h i (looks a) e p = no_way cc
+  set_is h i (headless x) e p = cc
+  set_is h i (tells k l x) e p = cc
+  set_is h i (shut k x) e p = cc
+  set_is h i (looks a) e p = cc
 
   -- lookups
   look_turn : {before : List Event} {w : Walk} {c : Call} {t : Turn} {hs : List Header} {q : ℕ} (a : ℕ) (r : Looked) → Longest limit m hs q → Inv m before w → Turned limit w c t → looked a r ≡ t.event → Lookup limit m hs q a r
-  look_turn a r g i (ended x) e = no_way cc
-  look_turn a r g i (heads h x y) e = no_way cc
-  look_turn a r g i (breaks f x y) e = no_way cc
-  look_turn a r g i (enters h x) e = no_way cc
-  look_turn a r g i (headless x) e = no_way cc
-  look_turn a r g i (tells k l x) e = no_way cc
-  look_turn a r g i (shut k x) e = no_way cc
+  look_turn a r g i (ended x) e = cc
+  look_turn a r g i (heads h x y) e = cc
+  look_turn a r g i (breaks f x y) e = cc
+  look_turn a r g i (enters h x) e = cc
+  look_turn a r g i (headless x) e = cc
+  look_turn a r g i (tells k l x) e = cc
+  look_turn a r g i (shut k x) e = cc
   look_turn {w = w} {hs = hs} {q = q} a r g i (looks b) e =
       let same : b ≡ a = cc in
       let y : look limit b 0 0 (length w.whole.rest) w.whole ≡ r = cc in

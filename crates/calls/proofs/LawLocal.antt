@@ -9,9 +9,6 @@ use Rattle.aranges.specs.Sets.{Header, header, span, padding, fields, a_version,
 use Rattle.readers.specs.Reading.{length_size}
 use Rattle.calls.proofs.LawLooks.{past_zero, past_past}
 
-no_way : {A : Type 0} → ◌≡◌ {A = ℕ} 0 1 → A
-no_way z = absurd (omega arith)
-
 -- a read that took n bytes and gave z takes as many and gives z again wherever they stand at the front;
 -- lift says how the answer hangs on the reader after it
 record Took {A : Type 0} (lift : A → Meaning → A) (f : Meaning → Step A) (m : Meaning) (z : A) (n : ℕ) : Type 0 where
@@ -52,7 +49,7 @@ module _ {A B : Type 0} (lift : B → Meaning → B) (Q : ℕ → A → Type 0) 
       go : (o : Outcome A) → (f m).outcome ≡ o → (then (f m) g).outcome ≡ answer z → Got lift P F m z
       go (fault x) p q =
           let r : ◌≡◌ {A = Outcome B} (fault x) (answer z) = sym (ap (λ (v : Outcome A). (then (record { outcome = v; after = (f m).after }) g).outcome) p) ∙ q in
-          no_way cc
+          cc
       go (answer x) p q =
           let a : Got plain Q f m x = lf m x p in
           let s : f m ≡ gives x (past a.takes m) = a.took.again m.rest a.took.fits refl in
@@ -67,7 +64,7 @@ local_fixed : (n : ℕ) → Local plain (λ k z. k ≡ n) (fixed n)
 local_fixed n m z e = go (leb n (length m.rest)) refl e
   where
     go : (b : Bool) → leb n (length m.rest) ≡ b → (cond b (gives (spelt m.big (take n m.rest)) (past n m)) (refuses 1 m.id m)).outcome ≡ answer z → Got plain (λ k z. k ≡ n) (fixed n) m z
-    go false p q = no_way cc
+    go false p q = cc
     go true p q =
         let x : spelt m.big (take n m.rest) ≡ z = cc in
         record {
@@ -90,7 +87,7 @@ local_gives : {A : Type 0} (P : ℕ → A → Type 0) (x : A) → P 0 x → Loca
 local_gives P x p m z e = let s : x ≡ z = cc in local_none plain P (gives x) m z (subst (λ v. P 0 v) s p) (λ bs. ap (λ v. gives v (at m.id bs m)) s)
 
 local_refuses : {A : Type 0} (lift : A → Meaning → A) (P : ℕ → A → Type 0) (n p : ℕ) → Local lift P (refuses n p)
-local_refuses lift P n p m z e = no_way cc
+local_refuses lift P n p m z e = cc
 
 local_cond : {A : Type 0} (lift : A → Meaning → A) (P : ℕ → A → Type 0) (b : Bool) (f g : Meaning → Step A) → (b ≡ true → Local lift P f) → (b ≡ false → Local lift P g) → Local lift P (λ m. cond b (f m) (g m))
 local_cond lift P true f g x y m z e = let r = x refl m z e in record { takes = r.takes; good = r.good; took = record { fits = r.took.fits; again = r.took.again } }
@@ -115,7 +112,7 @@ local_skipped : (n : ℕ) → Local plain Any (skipped n)
 local_skipped n m z e = go (leb n (length m.rest)) refl e
   where
     go : (b : Bool) → leb n (length m.rest) ≡ b → (cond b (gives tt (past n m)) (refuses 1 m.id m)).outcome ≡ answer z → Got plain Any (skipped n) m z
-    go false p q = no_way cc
+    go false p q = cc
     go true p q =
         record {
           takes = n;
@@ -291,13 +288,13 @@ module _ (limit p : ℕ) (m : Meaning) (h : Header) where
     where
       second : (i : Initial) (a : Got plain Leads (initial limit) m i) (t : Bool) → leb i.length (length (drop a.takes m.rest)) ≡ t
           → (cond t (fields limit p i.length i.word (front i.length (past a.takes m))) (refuses 1 (m.id + a.takes) (past a.takes m))).outcome ≡ answer h → Parsed limit p m h
-      second i a false x y = no_way cc
+      second i a false x y = cc
       second i a true x y = build i a (local_fields limit p i.length i.word (front i.length (past a.takes m)) h y) (leb-true i.length (length (drop a.takes m.rest)) x) y
 
       first : (o : Outcome Initial) → (initial limit m).outcome ≡ o → (then (initial limit m) body).outcome ≡ answer h → Parsed limit p m h
       first (fault f) x y =
           let r : ◌≡◌ {A = Outcome Header} (fault f) (answer h) = sym (ap (λ (v : Outcome Initial). (then (record { outcome = v; after = (initial limit m).after }) body).outcome) x) ∙ y in
-          no_way cc
+          cc
       first (answer i) x y =
           let a : Got plain Leads (initial limit) m i = local_initial limit m i x in
           second i a (leb i.length (length (drop a.takes m.rest))) refl
@@ -310,7 +307,7 @@ module _ (limit p : ℕ) (m : Meaning) (h : Header) where
       second : (i : Initial) (a : Got plain Leads (initial limit) m i) (t : Bool) → leb i.length (length (drop a.takes m.rest)) ≡ t
           → (cond t (fields limit p i.length i.word (front i.length (past a.takes m))) (refuses 1 (m.id + a.takes) (past a.takes m))).outcome ≡ answer h
           → (then (cond t (gives (front i.length (past a.takes m)) (past i.length (past a.takes m))) (refuses 1 (m.id + a.takes) (past a.takes m))) (apart limit p i)).after ≡ past (span h) m
-      second i a false x y = no_way cc
+      second i a false x y = cc
       second i a true x y =
           past_past a.takes i.length m
           ∙ sym (ap (λ (v : ℕ). past v m) (spans i a (local_fields limit p i.length i.word (front i.length (past a.takes m)) h y)))
@@ -318,7 +315,7 @@ module _ (limit p : ℕ) (m : Meaning) (h : Header) where
       first : (o : Outcome Initial) → (initial limit m).outcome ≡ o → (then (initial limit m) body).outcome ≡ answer h → (set_step limit p m).after ≡ past (span h) m
       first (fault f) x y =
           let r : ◌≡◌ {A = Outcome Header} (fault f) (answer h) = sym (ap (λ (v : Outcome Initial). (then (record { outcome = v; after = (initial limit m).after }) body).outcome) x) ∙ y in
-          no_way cc
+          cc
       first (answer i) x y =
           let a : Got plain Leads (initial limit) m i = local_initial limit m i x in
           ap (λ (v : Step Initial). (then v (from_length limit p)).after) (a.took.again m.rest a.took.fits refl)

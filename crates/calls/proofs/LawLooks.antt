@@ -53,7 +53,7 @@ holds_false a e p = go (holds a e) refl
     go false q = refl
 
 pub false_holds : (a : ℕ) (e : Entry) → holds a e ≡ false → Holds a (entry e) → ⊥
-false_holds a e p q = let t : holds a e ≡ true = true_holds a e q in let z : true ≡ false = sym t ∙ p in let y : ◌≡◌ {A = ℕ} 0 1 = cc in omega arith
+false_holds a e p q = let t : holds a e ≡ true = true_holds a e q in cc
 
 -- what holds the address nowhere is passed over
 pub search_skips : (a : ℕ) (xs ys : List (Header × Says)) (c : ℕ) → Nowhere a xs → searched a (xs ++ ys) c ≡ searched a ys (c + passed xs)

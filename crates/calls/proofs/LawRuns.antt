@@ -16,7 +16,7 @@ abbrev pub Bad : Outcome Header → Type 0
 Bad o = (h : Header) → o ≡ answer h → ⊥
 
 pub bad_fault : (f : Fault) → Bad (fault f)
-bad_fault f h e = let z : ◌≡◌ {A = ℕ} 0 1 = cc in omega arith
+bad_fault f h e = cc
 
 -- no header where nothing is left
 pub nothing_left : (limit p : ℕ) (m : Meaning) → m.rest ≡ [] → Bad (header limit p m)
@@ -61,8 +61,8 @@ same_stop limit m (set e s) (set f t) = same_stop limit m s t
 -- beginnings of each other
 pub both_begin : {A : Type 0} (xs ys : List A) → Begins xs ys → Begins ys xs → xs ≡ ys
 both_begin [] [] b c = refl
-both_begin [] (y ∷ ys) b c = let z : ◌≡◌ {A = ℕ} 0 1 = cc c.1 in absurd (omega arith)
-both_begin (x ∷ xs) [] b c = let z : ◌≡◌ {A = ℕ} 0 1 = cc b.1 in absurd (omega arith)
+both_begin [] (y ∷ ys) b c = cc c.1
+both_begin (x ∷ xs) [] b c = cc b.1
 both_begin (x ∷ xs) (y ∷ ys) (zs, b) (ws, c) =
     let e : x ≡ y = cc in
     let b2 : ys ≡ xs ++ zs = cc in

@@ -1,6 +1,6 @@
 -- The answers to a list of calls, one call at a time.
-use Rattle.std.proofs.Common.{◌≡◌, ℕ, ◌+◌, ◌<◌, ◌≤◌, List, [], ◌∷◌, ◌++◌, map, length, get_or, drop, Some, None, Option, sym, refl, ap, ◌∙◌}
-use Rattle.std.proofs.lemmas.List.{append-nil, append_assoc, map_push, drop_more, drop_all}
+use Rattle.std.proofs.Common.{◌≡◌, ℕ, ◌≤◌, List, [], ◌∷◌, ◌++◌, map, length, drop, Some, None, Option, sym, refl, ap, ◌∙◌}
+use Rattle.std.proofs.lemmas.List.{append-nil, drop_all}
 use Rattle.readers.specs.Outcome.{answer, fault_of}
 use Rattle.aranges.specs.Sets.{Header}
 use Rattle.aranges.specs.Tuples.{Kind, failed}
@@ -11,33 +11,14 @@ use Rattle.aranges.specs.Iterators.{Left, draw, entries_of}
 use Rattle.calls.specs.Turns.{step}
 use Rattle.calls.proofs.Replay.{replay_from, replay}
 use Rattle.readers.specs.Reading.{Meaning}
-use Rattle.walk.specs.Links.{Took}
 
-more_one : (limit : ℕ) (w v : Walk) (es : List Event) (e : Event) (k : Call) (ks : List Call) → Took e v (step limit k w)
-    → (es ++ (e ∷ [])) ++ replay_from limit v ks ≡ es ++ replay_from limit w (k ∷ ks)
-more_one limit w v es e k ks t =
-    append_assoc es (e ∷ []) (replay_from limit v ks)
-    ∙ ap (λ (x : Event). es ++ (x ∷ replay_from limit v ks)) t.happened
-    ∙ ap (λ (x : Walk). es ++ ((step limit k w).event ∷ replay_from limit x ks)) t.leaves
-
-module _ {A C : Type 0} (f : A → Event) (h : C → Call) where
-  pub replays_more : (limit : ℕ) (w v : Walk) (xs ys : List A) (a : A) (cs : List C) (i : ℕ) (d : C) (all : List Event) → i < length cs
-      → ys ≡ xs ++ (a ∷ []) → Took (f a) v (step limit (h (get_or cs i d)) w)
-      → map f xs ++ replay_from limit w (map h (drop i cs)) ≡ all → map f ys ++ replay_from limit v (map h (drop (i + 1) cs)) ≡ all
-  replays_more limit w v xs ys a cs i d all l e t p =
-      ap (λ (zs : List A). map f zs ++ replay_from limit v (map h (drop (i + 1) cs))) e
-      ∙ ap (λ (es : List Event). es ++ replay_from limit v (map h (drop (i + 1) cs))) (map_push f xs a)
-      ∙ more_one limit w v (map f xs) (f a) (h (get_or cs i d)) (map h (drop (i + 1) cs)) t
-      ∙ sym (ap (λ (ks : List C). map f xs ++ replay_from limit w (map h ks)) (drop_more cs i d l))
-      ∙ p
-
-  pub replays_all : (limit : ℕ) (w u : Walk) (m : Meaning) (xs : List A) (cs : List C) (i : ℕ) → length cs ≤ i → u ≡ open_walk m
-      → map f xs ++ replay_from limit w (map h (drop i cs)) ≡ replay_from limit u (map h cs) → map f xs ≡ replay limit m (map h cs)
-  replays_all limit w u m xs cs i l o p =
-      sym (append-nil (map f xs))
-      ∙ sym (ap (λ (ks : List C). map f xs ++ replay_from limit w (map h ks)) (drop_all i cs l))
-      ∙ p
-      ∙ ap (λ (x : Walk). replay_from limit x (map h cs)) o
+pub replays_all : {A C : Type 0} (f : A → Event) (h : C → Call) (limit : ℕ) (w u : Walk) (m : Meaning) (xs : List A) (cs : List C) (i : ℕ) → length cs ≤ i → u ≡ open_walk m
+    → map f xs ++ replay_from limit w (map h (drop i cs)) ≡ replay_from limit u (map h cs) → map f xs ≡ replay limit m (map h cs)
+replays_all {C = C} f h limit w u m xs cs i l o p =
+    sym (append-nil (map f xs))
+    ∙ sym (ap (λ (ks : List C). map f xs ++ replay_from limit w (map h ks)) (drop_all i cs l))
+    ∙ p
+    ∙ ap (λ (x : Walk). replay_from limit x (map h cs)) o
 
 -- an event tells its call
 entered_asked : (w : Walk) (o : Option Header)

@@ -12,7 +12,7 @@ use std::alloc::{AllocError, Global};
 use walk::{Lookup, Walk};
 
 /// A call of an open walk.
-#[derive(Clone, Copy)]
+#[derive(Clone, Copy, PartialEq, Eq, Debug)]
 pub enum Call {
     NextHeader,
     Entries,
@@ -42,12 +42,14 @@ pub fn answer_calls<R: AddressReader>(
 {
     let mut walk = Walk::new(section);
     let mut answers = Vec::new(heap);
+    // no chain: a closure that changes the walk under `map` tells a proof nothing of the answers
     for call in calls {
         answers.push(answer_call(&mut walk, *call))?;
     }
     Ok(answers)
 }
 
+// One call of the walk, and its answer. Which call is a value, as a list from the input says.
 fn answer_call<R: AddressReader>(walk: &mut Walk<R>, call: Call) -> Answer<R>
     ensures { Took (event_is R.Reader.means R.Offset.ReaderOffset.number result) (walk_is R.Reader.means R.Offset.ReaderOffset.number walk.new) (step R.Offset.ReaderOffset.limit (call_is call) (walk_is R.Reader.means R.Offset.ReaderOffset.number walk.old)) }
 {

@@ -1,28 +1,10 @@
-use Rattle.std.proofs.Common.{◌≡◌, ◌<◌, ◌≤◌, map, length, vec_items, arith}
-use Rattle.std.proofs.lemmas.Result.{IfOk-from_err}
-use Rattle.calls.specs.declared.calls.Call.TheVariants.{NextHeader}
-use Rattle.calls.proofs.Replay.{replay_from, replay}
+use Rattle.std.proofs.Common.{◌≡◌, ◌≤◌, map, length, vec_items, arith}
+use Rattle.calls.proofs.Replay.{replay}
 use Rattle.calls.specs.Links.{call_is, event_is}
 use Rattle.walk.specs.Links.{walk_is}
-use Rattle.calls.proofs.Replays.{replays_more, replays_all, asked}
+use Rattle.calls.proofs.Replays.{replays_all, asked}
 use Rattle.calls.proofs.Bridge.{owed}
 use Rattle.calls.proofs.calls.answer_calls.Goals as goal
-
-pub returns-in_err-push : goal.returns-in_err-push
-returns-in_err-push g c =
-    record {
-      asked = IfOk-from_err c.from_residual.result _ c.from_residual.ensures.0;
-      owed = IfOk-from_err c.from_residual.result _ c.from_residual.ensures.0;
-    }
-
-pub loop-call-preserved : goal.loop-call-preserved
-loop-call-preserved g c =
-    let ev = event_is g.R.Reader.means g.R.Offset.ReaderOffset.number in
-    let wk = walk_is g.R.Reader.means g.R.Offset.ReaderOffset.number in
-    let h : c.loop-call.call-index < length c.args.calls.now = omega arith in
-    replays_more ev call_is g.R.Offset.ReaderOffset.limit (wk c.loop-call.walk) (wk c.answer_call.new.walk) (vec_items c.loop-call.answers) (vec_items c.push.new.self) c.answer_call.result
-    c.args.calls.now c.loop-call.call-index NextHeader (replay_from g.R.Offset.ReaderOffset.limit (wk c.new-walk.result) (map call_is c.args.calls.now)) h
-    c.in_ok-push.ensures.items c.answer_call.ensures c.loop-call.invariant
 
 pub returns : goal.returns
 returns g c =
