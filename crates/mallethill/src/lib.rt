@@ -88,8 +88,7 @@ fn sum_of_tuples<R: AddressReader>(header: &ArangeHeader<R>) -> u64 {
 }
 
 // The unsigned LEB128 numbers of a section, up to the first that is refused.
-fn sum_of_numbers<R: Reader>(reader: R) -> u64 {
-    let mut reader = reader;
+fn sum_of_numbers<R: Reader>(mut reader: R) -> u64 {
     let mut sum = 0u64;
     while let Ok(number) = read_uleb128(&mut reader) {
         sum = sum.wrapping_add(number);

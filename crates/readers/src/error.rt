@@ -90,8 +90,8 @@ impl fmt::Display for Error {
     ghost output = { λ error. Some (fault_text (fault_is error)) };
 
     fn fmt<W: fmt::Write>(&self, f: &mut fmt::Formatter<W>) -> fmt::Result {
-        let name = self.name();
-        let payload = self.payload();
-        write!(f, "{name} {payload}")
+        write!(f, "{} {}", self.name(), self.payload())
     }
 }
+
+impl std::error::Error for Error {}

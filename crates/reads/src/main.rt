@@ -116,7 +116,7 @@ impl fmt::Display for Reading {
     }
 }
 
-// What a line asks, if it is no bad one.
+// What a line asks; a bad line asks nothing.
 fn request_of(line: &str) -> Option<Request<'_>> {
     match line.split_once(' ') {
         Some(("wu", number)) => Some(Request::WriteUnsigned(number.parse::<u64>().ok()?)),
@@ -254,6 +254,7 @@ fn answer(heap: Global, line: &str) -> Result<String, AllocError> {
     }
 }
 
+// What a reading is written as, or why there is none.
 fn reading_text(heap: Global, reading: Result<Reading, Error>) -> Result<String, AllocError> {
     match reading {
         Ok(reading) => format!(in heap; "{reading}"),
@@ -275,6 +276,7 @@ fn record_of(text: &str) -> Option<Relocation> {
     })
 }
 
+// Makes a call on a reader, or under two tables behind the bytes that are skipped under the first.
 fn read_under<R: AddressReader>(
     reader: R,
     tables: Option<Tables<'_>>,
@@ -291,6 +293,7 @@ fn read_under<R: AddressReader>(
     ))
 }
 
+// Makes a call on a reader, and sees how many bytes are left.
 fn read<R: AddressReader>(mut reader: R, call: ReadCall) -> Reading {
     let answer = perform(&mut reader, call);
     Reading {
@@ -347,6 +350,7 @@ fn perform<R: AddressReader>(reader: &mut R, call: ReadCall) -> Result<Values, E
     })
 }
 
+// Skips as many bytes, if the reader's offsets hold the number.
 fn skip<R: Reader>(reader: &mut R, len: u64) -> Result<(), Error> {
     reader.skip(R::Offset::from_u64(len)?)
 }

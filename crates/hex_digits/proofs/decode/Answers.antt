@@ -1,3 +1,4 @@
+-- The bytes collected are those of the pairs, and those are what the digits stand for.
 use Rattle.std.proofs.Common.{◌≡◌, rules, IfOk, map}
 use Rattle.hex_digits.proofs.Pairs.{decoded_pairs, byte_of}
 use Rattle.hex_digits.proofs.decode.Goals as goal

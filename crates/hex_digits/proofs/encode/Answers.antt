@@ -1,3 +1,4 @@
+-- One byte more writes its two digits.
 use Rattle.std.proofs.Common.{◌≡◌, ◌++◌, ◌-◌, ◌^◌, [], false, get_or, string_bytes, rules, arith}
 use Rattle.std.specs.Fmt.{digits, padded_integral, format_spec}
 use Rattle.hex_digits.proofs.Pairs.{encoded_more}

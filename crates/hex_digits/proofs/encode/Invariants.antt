@@ -1,3 +1,4 @@
+-- What the loop has written so far.
 use Rattle.std.proofs.Common.{◌≡◌, take, string_bytes}
 use Rattle.hex_digits.specs.Hex.{encoded}
 use Rattle.hex_digits.proofs.encode.Given as goal

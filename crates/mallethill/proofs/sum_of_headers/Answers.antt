@@ -1,3 +1,4 @@
+-- A header that was read took its bytes.
 use Rattle.std.proofs.Common.{arith}
 use Rattle.aranges.specs.Links.{header_is}
 use Rattle.walk.proofs.Looks.{looks_shorter}

@@ -1,3 +1,4 @@
+-- A number that was read took its bytes.
 use Rattle.mallethill.proofs.Shorter.{number_shorter}
 use Rattle.mallethill.proofs.sum_of_numbers.Goals as goal
 

@@ -1,3 +1,4 @@
+-- A tuple, or its fault, took its bytes.
 use Rattle.std.proofs.Common.{sym, ◌∙◌}
 use Rattle.aranges.specs.Links.{entries_is}
 use Rattle.mallethill.proofs.Shorter.{tuple_shorter}
