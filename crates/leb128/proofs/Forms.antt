@@ -1,5 +1,6 @@
 -- The shortest form of a number: what it reads as, and why none is shorter. Assumes nothing.
 use Rattle.std.proofs.Common.{◌≡◌, ℕ, zero, suc, ◌+◌, ◌*◌, ◌/◌, ◌%◌, ◌^◌, ◌<◌, ◌≤◌, Bool, true, false, cond, List, [], ◌∷◌, ◌++◌, length, drop, Ok, sym, refl, ap, ◌∙◌, ap₂, suc-le-suc, zero-le, mul_assoc, mul-add, arith, length-append}
+use Rattle.std.proofs.lemmas.Bool.{le-leb, lt-leb}
 use Rattle.std.proofs.lemmas.Nat.{pow-add}
 use Rattle.std.proofs.lemmas.List.{drop_at}
 use Rattle.readers.specs.Outcome.{answer, fault_of}
@@ -8,7 +9,7 @@ use Rattle.readers.specs.Links.{Did}
 use Rattle.leb128.specs.Leb128.{spelling, up_to, bits}
 use Rattle.leb128.specs.Turned.{turned}
 use Rattle.readers.proofs.Steps.{gave}
-use Rattle.leb128.proofs.Spelling.{having, one_byte, spelt_last, spelt_more, is_more, not_more, unrolled, first}
+use Rattle.leb128.proofs.Spelling.{having, one_byte, spelt_last, spelt_more, unrolled, first}
 
 -- each byte says that more follow
 abbrev pub Mores : List ℕ → Type 0
@@ -34,8 +35,8 @@ Spells (goes ∷ ps) (b ∷ ms) l = (goes b ≡ true) × Spells ps ms l
 
 pub spells_more : (n : ℕ) (ms : List ℕ) (l : ℕ) → Mores ms → l < 128 → length ms < n → Spells (up_to n) ms l
 spells_more zero ms l h f g = let no : ⊥ = omega arith in no
-spells_more (suc n) [] l h f g = not_more l f
-spells_more (suc n) (b ∷ ms) l h f g = (is_more b h.0, spells_more n ms l h.1 f (omega arith))
+spells_more (suc n) [] l h f g = lt-leb 128 l f
+spells_more (suc n) (b ∷ ms) l h f g = (le-leb 128 b h.0, spells_more n ms l h.1 f (omega arith))
 
 -- such bytes are a spelling, whatever follows
 pub spelt_form : {A : Type 0} (ps : List (ℕ → Bool)) (ms : List ℕ) (l : ℕ) (z : List ℕ) (m : Meaning) (k : List ℕ → Meaning → Step A) → Spells ps ms l → m.rest ≡ ms ++ l ∷ z → then (spelling ps m) k ≡ k (ms ++ l ∷ []) (at (m.id + (length ms + 1)) z m)

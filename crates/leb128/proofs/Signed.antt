@@ -1,15 +1,13 @@
 -- A signed number, byte by byte. Assumes nothing.
-use Rattle.std.proofs.Common.{◌≡◌, ℕ, suc, ◌+◌, ◌*◌, ◌%◌, ◌^◌, ◌<◌, ◌≤◌, Bool, true, false, cond, ◌||◌, eqb, leb, List, [], ◌∷◌, length, get_or, ℤ, pos, ◌-ℤ◌, Ok, Err, sym, ap, ◌∙◌, ap₂, ⊎_elim, mul_assoc, eq-or-lt_of_le, mul-add, arith}
+use Rattle.std.proofs.Common.{◌≡◌, ℕ, suc, ◌+◌, ◌*◌, ◌%◌, ◌^◌, ◌<◌, ◌≤◌, Bool, true, false, cond, ◌||◌, eqb, leb, List, [], ◌∷◌, length, get_or, ℤ, pos, ◌-ℤ◌, Ok, sym, ap, ◌∙◌, ap₂, mul_assoc, mul-add, arith}
 use Rattle.std.proofs.lemmas.Nat.{pow-add, pow_below, one_shl}
 use Rattle.std.proofs.lemmas.Int.{ints}
 use Rattle.std.proofs.lemmas.Bool.Decides.{nat_tests}
-use Rattle.readers.specs.Outcome.{fault}
 use Rattle.readers.specs.Reading.{Meaning, Step, gives, refuses, fixed}
-use Rattle.readers.specs.declared.error.Error.{Error}
-use Rattle.readers.specs.Links.{Did, fault_is}
+use Rattle.readers.specs.Links.{Did}
 use Rattle.leb128.specs.Leb128.{spelling, up_to, more, bits, sign, signed}
 use Rattle.readers.proofs.Steps.{then_same}
-use Rattle.leb128.proofs.Spelling.{left, left_fault, spelt_fault, left_last, left_more, left_nine, spelt_one}
+use Rattle.leb128.proofs.Spelling.{left, left_last, left_more, left_nine, spelt_one}
 
 -- v, less p if the sign is set
 abbrev pub signed_by : Bool → ℕ → ℕ → ℤ
@@ -95,10 +93,3 @@ module _ (i acc : ℕ) (m a : Meaning) (b : ℕ) (nine : i ≡ 9) (did : Did (λ
   pub tenth_refuses : (b ≡ 0 → ⊥) → (b ≡ 127 → ⊥) → left more [] ends i acc m ≡ refuses 9 0 a
   tenth_refuses h k =
       tenth_is ∙ ap (λ t. chosen t a (signed_by (sign (b ∷ [])) (acc + 2 ^ 63 * bits (b ∷ [])) (2 ^ 63 * 128))) (whole_no b h k)
-
-pub fails : (i acc : ℕ) (m a : Meaning) (e : Error) → i ≤ 9 → Did {B = ℕ} (λ (x : ℕ). x) (Err e) a (fixed 1 m) → left more [] ends i acc m ≡ record { outcome = fault (fault_is e); after = a }
-fails i acc m a e h d =
-    ⊎_elim
-    (λ nine. left_nine more [] ends i acc m nine ∙ spelt_fault more [] (ends 0 (2 ^ 63) acc) m a e d)
-    (λ less. left_fault more [] ends i acc m a e less d)
-    (eq-or-lt_of_le h)

@@ -1,7 +1,9 @@
 -- How the bytes of a number are read one by one. Assumes nothing.
-use Rattle.std.proofs.Common.{◌≡◌, ℕ, zero, suc, ◌+◌, ◌-◌, ◌*◌, ◌%◌, ◌^◌, ◌<◌, ◌≤◌, Bool, true, false, cond, leb, List, [], ◌∷◌, ◌++◌, length, Ok, Err, sym, refl, ap, ◌∙◌, ap₂, le_refl, mul_comm, arith}
+use Rattle.std.proofs.Common.{◌≡◌, ℕ, zero, suc, ◌+◌, ◌-◌, ◌*◌, ◌%◌, ◌^◌, ◌<◌, ◌≤◌, Bool, true, false, cond, leb, List, [], ◌∷◌, ◌++◌, length, Ok, Err, sym, refl, ap, ◌∙◌, ap₂, ⊎_elim, eq-or-lt_of_le, le_refl, mul_comm, arith}
 use lib.Bits.{bit_and, bit_or}
-use Rattle.std.proofs.lemmas.Nat.{and_mask, or_comm, or_shifted, shl_whole, pow-add, mul-le}
+use Rattle.std.specs.Int.Bits.{or_shifted_r}
+use Rattle.std.proofs.lemmas.Bool.{le-leb, lt-leb}
+use Rattle.std.proofs.lemmas.Nat.{and_mask, shl_whole, pow-add, mul-le}
 use Rattle.readers.specs.declared.error.Error.{Error}
 use Rattle.readers.specs.Outcome.{fault}
 use Rattle.readers.specs.Reading.{Meaning, Step, at, gives, refuses, then, fixed, spelt}
@@ -37,12 +39,6 @@ module _ {A : Type 0} (goes : ℕ → Bool) (ps : List (ℕ → Bool)) (k : List
       unrolled ∙ then_answered (fixed 1 m) (first goes ps k) b a d.answers d.leaves
       ∙ ap (λ t. cond t (then (spelling ps a) (λ bs z. k (b ∷ bs) z)) (k (b ∷ []) a)) e
 
-pub is_more : (b : ℕ) → 128 ≤ b → more b ≡ true
-is_more b h = grind arith
-
-pub not_more : (b : ℕ) → b < 128 → more b ≡ false
-not_more b h = grind arith
-
 one_by : {A : Type 0} (k : List ℕ → Meaning → Step A) (b : ℕ) (a : Meaning) (t : Bool) → cond t (k (b ∷ []) a) (k (b ∷ []) a) ≡ k (b ∷ []) a
 one_by k b a true = refl
 one_by k b a false = refl
@@ -73,17 +69,25 @@ module _ {A : Type 0} (goes : ℕ → Bool) (ts : List (ℕ → Bool)) (K : ℕ 
   unfolding left
   before_nine i acc m h = let n : 9 - i ≡ suc (8 - i) = omega arith in ap (λ x. then (spelling (up_to x ++ goes ∷ ts) m) (K x (2 ^ (7 * i)) acc)) n
 
-  pub left_fault : (i acc : ℕ) (m a : Meaning) (e : Error) → i < 9 → Did {B = ℕ} (λ (x : ℕ). x) (Err e) a (fixed 1 m) → left i acc m ≡ record { outcome = fault (fault_is e); after = a }
+  left_fault : (i acc : ℕ) (m a : Meaning) (e : Error) → i < 9 → Did {B = ℕ} (λ (x : ℕ). x) (Err e) a (fixed 1 m) → left i acc m ≡ record { outcome = fault (fault_is e); after = a }
   left_fault i acc m a e h d =
       before_nine i acc m h ∙ spelt_fault more (up_to (8 - i) ++ goes ∷ ts) (K (suc (8 - i)) (2 ^ (7 * i)) acc) m a e d
 
   pub left_last : (i acc : ℕ) (m a : Meaning) (b : ℕ) → i < 9 → Did (λ (x : ℕ). x) (Ok b) a (fixed 1 m) → b < 128 → left i acc m ≡ K (suc (8 - i)) (2 ^ (7 * i)) acc (b ∷ []) a
   left_last i acc m a b h d f =
-      before_nine i acc m h ∙ spelt_last more (up_to (8 - i) ++ goes ∷ ts) (K (suc (8 - i)) (2 ^ (7 * i)) acc) m a b d (not_more b f)
+      before_nine i acc m h ∙ spelt_last more (up_to (8 - i) ++ goes ∷ ts) (K (suc (8 - i)) (2 ^ (7 * i)) acc) m a b d (lt-leb 128 b f)
 
   pub left_nine : (i acc : ℕ) (m : Meaning) → i ≡ 9 → left i acc m ≡ then (spelling (goes ∷ ts) m) (K 0 (2 ^ 63) acc)
   unfolding left
   left_nine i acc m e = ap (λ n. then (spelling (up_to (9 - n) ++ goes ∷ ts) m) (K (9 - n) (2 ^ (7 * n)) acc)) e
+
+  -- a byte that is missing, one of the nine or the one behind them
+  pub left_fails : (i acc : ℕ) (m a : Meaning) (e : Error) → i ≤ 9 → Did {B = ℕ} (λ (x : ℕ). x) (Err e) a (fixed 1 m) → left i acc m ≡ record { outcome = fault (fault_is e); after = a }
+  left_fails i acc m a e h d =
+      ⊎_elim
+      (λ nine. left_nine i acc m nine ∙ spelt_fault goes ts (K 0 (2 ^ 63) acc) m a e d)
+      (λ less. left_fault i acc m a e less d)
+      (eq-or-lt_of_le h)
 
   pub left_more : ((d p acc b c : ℕ) (bs : List ℕ) (z : Meaning) → K (suc d) p acc (b ∷ c ∷ bs) z ≡ K d (p * 128) (acc + p * (b % 128)) (c ∷ bs) z) → (i acc : ℕ) (m a : Meaning) (b : ℕ) → i < 9 → Did (λ (x : ℕ). x) (Ok b) a (fixed 1 m) → 128 ≤ b → left i acc m ≡ left (i + 1) (acc + 2 ^ (7 * i) * (b % 128)) a
   unfolding left
@@ -92,7 +96,7 @@ module _ {A : Type 0} (goes : ℕ → Bool) (ts : List (ℕ → Bool)) (K : ℕ 
       let seven : 7 * i + 7 ≡ 7 * (i + 1) = omega arith in
       let p : 2 ^ (7 * i) * 128 ≡ 2 ^ (7 * (i + 1)) = sym (pow-add 2 (7 * i) 7) ∙ ap (λ x. 2 ^ x) seven in
       before_nine i acc m h
-      ∙ spelt_more more (up_to (8 - i) ++ goes ∷ ts) (K (suc (8 - i)) (2 ^ (7 * i)) acc) m a b d (is_more b f)
+      ∙ spelt_more more (up_to (8 - i) ++ goes ∷ ts) (K (suc (8 - i)) (2 ^ (7 * i)) acc) m a b d (le-leb 128 b f)
       ∙ some_same (8 - i) (λ bs z. K (suc (8 - i)) (2 ^ (7 * i)) acc (b ∷ bs) z) (K (8 - i) (2 ^ (7 * i) * 128) (acc + 2 ^ (7 * i) * (b % 128))) a (λ c bs z. law (8 - i) (2 ^ (7 * i)) acc b c bs z)
       ∙ ap₂ (λ x y. then (spelling (up_to x ++ goes ∷ ts) a) (K x y (acc + 2 ^ (7 * i) * (b % 128)))) o p
     where
@@ -103,7 +107,7 @@ module _ {A : Type 0} (goes : ℕ → Bool) (ts : List (ℕ → Bool)) (K : ℕ 
 -- higher bits put in by `|`
 pub higher : (r x k j w : ℕ) → r < 2 ^ k → x < 2 ^ j → j + k ≤ w → bit_or r ((x * 2 ^ k) % 2 ^ w) ≡ r + 2 ^ k * x
 higher r x k j w h f g =
-    ap (bit_or r) (shl_whole x j k w f g) ∙ or_comm r (x * 2 ^ k) ∙ or_shifted x k r h ∙ omega (arith, mul_comm x (2 ^ k))
+    ap (bit_or r) (shl_whole x j k w f g) ∙ or_shifted_r x k r h ∙ omega (arith, mul_comm x (2 ^ k))
 
 pub seven_more : (r b k w : ℕ) → r < 2 ^ k → k + 7 ≤ w → bit_or r ((bit_and b 127 * 2 ^ k) % 2 ^ w) ≡ r + 2 ^ k * (b % 128)
 seven_more r b k w h f =
@@ -138,5 +142,5 @@ took_by (r ∷ rs) m a b d = ap (λ t. suc (length t.rest)) (sym (d.leaves ∙ a
 
 pub passed_more : (m a : Meaning) (b : ℕ) → Did (λ (x : ℕ). x) (Ok b) a (fixed 1 m) → 128 ≤ b → passed m ≡ passed a
 passed_more m a b d h =
-    spelt_more more (up_to (length m.rest)) (λ _ z. gives tt z) m a b d (is_more b h)
+    spelt_more more (up_to (length m.rest)) (λ _ z. gives tt z) m a b d (le-leb 128 b h)
     ∙ ap (λ n. then (spelling (up_to n) a) (λ _ z. gives tt z)) (took_by m.rest m a b d)

@@ -1,13 +1,11 @@
 -- An unsigned number, byte by byte. Assumes nothing.
-use Rattle.std.proofs.Common.{◌≡◌, ℕ, suc, ◌+◌, ◌*◌, ◌%◌, ◌^◌, ◌<◌, ◌≤◌, Bool, true, false, cond, leb, List, [], ◌∷◌, get_or, Ok, Err, sym, ap, ◌∙◌, ap₂, ⊎_elim, mul_assoc, eq-or-lt_of_le, mul-add, arith}
+use Rattle.std.proofs.Common.{◌≡◌, ℕ, suc, ◌+◌, ◌*◌, ◌%◌, ◌^◌, ◌<◌, ◌≤◌, Bool, true, false, cond, leb, List, [], ◌∷◌, get_or, Ok, sym, ap, ◌∙◌, ap₂, mul_assoc, mul-add, arith}
 use lib.Bits.{bit_or}
-use Rattle.readers.specs.declared.error.Error.{Error}
-use Rattle.readers.specs.Outcome.{fault}
 use Rattle.readers.specs.Reading.{Meaning, Step, gives, refuses, fixed}
-use Rattle.readers.specs.Links.{Did, fault_is}
+use Rattle.readers.specs.Links.{Did}
 use Rattle.leb128.specs.Leb128.{spelling, up_to, more, bits, unsigned}
 use Rattle.readers.proofs.Steps.{then_same}
-use Rattle.leb128.proofs.Spelling.{left, left_fault, spelt_fault, left_last, left_more, left_nine, spelt_one, higher}
+use Rattle.leb128.proofs.Spelling.{left, left_last, left_more, left_nine, spelt_one, higher}
 
 abbrev pub ends : ℕ → ℕ → ℕ → List ℕ → Meaning → Step ℕ
 ends d p acc bs a = cond (leb (get_or bs d 0) 1) (gives (acc + p * bits bs) a) (refuses 8 0 a)
@@ -50,10 +48,3 @@ module _ (i acc : ℕ) (m a : Meaning) (b : ℕ) (nine : i ≡ 9) (did : Did (λ
   tenth_refuses h =
       let t : leb b 1 ≡ false = grind arith in
       tenth_is ∙ ap (λ x. chosen x a (acc + 2 ^ 63 * (b % 128 + 128 * 0))) t
-
-pub fails : (i acc : ℕ) (m a : Meaning) (e : Error) → i ≤ 9 → Did {B = ℕ} (λ (x : ℕ). x) (Err e) a (fixed 1 m) → left more [] ends i acc m ≡ record { outcome = fault (fault_is e); after = a }
-fails i acc m a e h d =
-    ⊎_elim
-    (λ nine. left_nine more [] ends i acc m nine ∙ spelt_fault more [] (ends 0 (2 ^ 63) acc) m a e d)
-    (λ less. left_fault more [] ends i acc m a e less d)
-    (eq-or-lt_of_le h)

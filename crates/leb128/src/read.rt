@@ -19,7 +19,7 @@ pub fn skip_leb128<R: Reader>(reader: &mut R) -> Result<(), Error>
     }
 }
 
-// the bits of i bytes, and above them the seven of the next
+// The bits of i bytes, and above them the seven of the next.
 #[tactic(auto, using(crate::proofs::Spelling::seven_fit))]
 fn with_group(bits: u64, byte: u8, i: u32) -> u64
     requires few { i < 9 }
@@ -34,6 +34,8 @@ fn with_group(bits: u64, byte: u8, i: u32) -> u64
 pub fn read_uleb128<R: Reader>(reader: &mut R) -> Result<u64, Error>
     ensures { Did (λ x. x) result (R.Reader.means reader.new) (unsigned (R.Reader.means reader.old)) }
 {
+    // Its own loop, and read_sleb128's: one function for both, which answers the bits and the last byte, was tried, and
+    // numbers of one byte took four times as long.
     let mut result = 0u64;
     for i in 0..9u32 {
         let byte = read_u8(reader)?;
@@ -54,10 +56,7 @@ pub fn read_uleb128_u32<R: Reader>(reader: &mut R) -> Result<u32, Error>
     ensures { Did (λ x. x) result (R.Reader.means reader.new) (unsigned_32 (R.Reader.means reader.old)) }
 {
     let value = read_uleb128(reader)?;
-    if value > 0xffff_ffff {
-        return Err(Error::BadUnsignedLeb128);
-    }
-    Ok(value as u32)
+    u32::try_from(value).map_err(|_| Error::BadUnsignedLeb128)
 }
 
 /// An unsigned number of at most three bytes, which 16 bits hold.

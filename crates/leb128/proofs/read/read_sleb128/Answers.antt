@@ -4,8 +4,8 @@ use Rattle.std.proofs.lemmas.Nat.{mul-le}
 use Rattle.readers.specs.Reading.{gives}
 use Rattle.leb128.specs.Leb128.{more}
 use Rattle.readers.proofs.Steps.{gave, refused, exits}
-use Rattle.leb128.proofs.Spelling.{left}
-use Rattle.leb128.proofs.Signed.{ends, fails, start, goes_on, ends_plain, ends_signed, half_is, tenth_plain, tenth_signed, tenth_refuses}
+use Rattle.leb128.proofs.Spelling.{left, left_fails}
+use Rattle.leb128.proofs.Signed.{ends, start, goes_on, ends_plain, ends_signed, half_is, tenth_plain, tenth_signed, tenth_refuses}
 use Rattle.leb128.proofs.read.read_sleb128.Goals as goal
 
 pub loop-i-init : goal.loop-i-init
@@ -14,7 +14,7 @@ loop-i-init g c = (start (g.R.Reader.means c.args.reader.now), omega arith)
 pub returns-in_err-byte : goal.returns-in_err-byte
 returns-in_err-byte g c =
     exits (λ x. x) c.from_residual.result c.in_err-byte.field-0.0 _ _ c.from_residual.ensures.1
-    (sym c.loop-i.invariant.0 ∙ fails c.loop-i.i c.loop-i.result _ _ _ (omega arith) c.in_err-byte.ensures)
+    (sym c.loop-i.invariant.0 ∙ left_fails more [] ends c.loop-i.i c.loop-i.result _ _ _ (omega arith) c.in_err-byte.ensures)
 
 pub loop-i-preserved : goal.loop-i-preserved
 loop-i-preserved g c = (
@@ -27,7 +27,7 @@ loop-i-preserved g c = (
 pub returns-in_err-last : goal.returns-in_err-last
 returns-in_err-last g c =
     exits (λ x. x) c.from_residual-in_err-last.result c.in_err-last.field-0.0 _ _ c.from_residual-in_err-last.ensures.1
-    (sym c.loop-i.invariant.0 ∙ fails c.loop-i.i c.loop-i.result _ _ _ (omega arith) c.in_err-last.ensures)
+    (sym c.loop-i.invariant.0 ∙ left_fails more [] ends c.loop-i.i c.loop-i.result _ _ _ (omega arith) c.in_err-last.ensures)
 
 -- what the bits come to with one byte more
 module _ (r b i v : ℕ) (h : i < 9) (e : v ≡ r + 2 ^ (7 * i) * (b % 128)) (fit : r < 2 ^ (7 * i)) where
@@ -45,11 +45,6 @@ module _ (r b i v : ℕ) (h : i < 9) (e : v ≡ r + 2 ^ (7 * i) * (b % 128)) (fi
   above_half f k =
       let large : 64 ≤ b % 128 = omega arith in
       omega (arith, mul-le (2 ^ (7 * i)) 64 (2 ^ (7 * i)) (b % 128) (le_refl (2 ^ (7 * i))) large)
-
-pub overflow_cast-result : goal.overflow_cast-result
-overflow_cast-result g c =
-    let h = value-fits c.loop-i.result c.in_ok-byte.byte c.loop-i.i c.with_group-result.result (omega arith) c.with_group-result.ensures.value c.loop-i.invariant.1 in
-    search rules
 
 pub returns-then-byte-lt64 : goal.returns-then-byte-lt64
 returns-then-byte-lt64 g c =

@@ -2,8 +2,8 @@ use Rattle.std.proofs.Common.{◌≡◌, ◌+◌, ◌*◌, ◌^◌, [], sym, ap,
 use Rattle.readers.specs.Reading.{gives}
 use Rattle.leb128.specs.Leb128.{more}
 use Rattle.readers.proofs.Steps.{gave, refused, exits}
-use Rattle.leb128.proofs.Spelling.{left}
-use Rattle.leb128.proofs.Unsigned.{ends, fails, start, goes_on, ends_here, tenth_answers, tenth_refuses}
+use Rattle.leb128.proofs.Spelling.{left, left_fails}
+use Rattle.leb128.proofs.Unsigned.{ends, start, goes_on, ends_here, tenth_answers, tenth_refuses}
 use Rattle.leb128.proofs.read.read_uleb128.Goals as goal
 
 pub loop-i-init : goal.loop-i-init
@@ -12,7 +12,7 @@ loop-i-init g c = (start (g.R.Reader.means c.args.reader.now), omega arith)
 pub returns-in_err-byte : goal.returns-in_err-byte
 returns-in_err-byte g c =
     exits (λ x. x) c.from_residual.result c.in_err-byte.field-0.0 _ _ c.from_residual.ensures.1
-    (sym c.loop-i.invariant.0 ∙ fails c.loop-i.i c.loop-i.result _ _ _ (omega arith) c.in_err-byte.ensures)
+    (sym c.loop-i.invariant.0 ∙ left_fails more [] ends c.loop-i.i c.loop-i.result _ _ _ (omega arith) c.in_err-byte.ensures)
 
 pub returns-then-byte-lt128 : goal.returns-then-byte-lt128
 returns-then-byte-lt128 g c =
@@ -32,7 +32,7 @@ loop-i-preserved g c = (
 pub returns-in_err-last : goal.returns-in_err-last
 returns-in_err-last g c =
     exits (λ x. x) c.from_residual-in_err-last.result c.in_err-last.field-0.0 _ _ c.from_residual-in_err-last.ensures.1
-    (sym c.loop-i.invariant.0 ∙ fails c.loop-i.i c.loop-i.result _ _ _ (omega arith) c.in_err-last.ensures)
+    (sym c.loop-i.invariant.0 ∙ left_fails more [] ends c.loop-i.i c.loop-i.result _ _ _ (omega arith) c.in_err-last.ensures)
 
 pub returns-then-last-gt1 : goal.returns-then-last-gt1
 returns-then-last-gt1 g c =

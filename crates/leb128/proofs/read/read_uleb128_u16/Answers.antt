@@ -1,11 +1,12 @@
 use Rattle.std.proofs.Common.{◌≡◌, ℕ, ◌*◌, ◌%◌, ◌<◌, ◌≤◌, Bool, true, false, cond, leb, List, [], ◌∷◌, get_or, Ok, sym, ap, ◌∙◌, ap₂, arith}
+use Rattle.std.proofs.lemmas.Bool.{le-leb, lt-leb}
 use lib.Bits.{bit_and, bit_or}
 use Rattle.std.proofs.lemmas.Nat.{and_mask}
 use Rattle.readers.specs.Reading.{Meaning, Step, fixed, gives, refuses, then}
 use Rattle.readers.specs.Links.{Did}
 use Rattle.leb128.specs.Leb128.{bits, more, up_to, spelling, unsigned_16}
 use Rattle.readers.proofs.Steps.{gave, refused, exits}
-use Rattle.leb128.proofs.Spelling.{spelt_fault, spelt_last, spelt_more, spelt_one, is_more, not_more, higher, seven_more}
+use Rattle.leb128.proofs.Spelling.{spelt_fault, spelt_last, spelt_more, spelt_one, higher, seven_more}
 use Rattle.leb128.proofs.read.read_uleb128_u16.Goals as goal
 
 abbrev chosen : Bool → Meaning → ℕ → Step ℕ
@@ -34,13 +35,13 @@ returns-then-first-lt128 g c =
     let b = c.in_ok-first.first in
     let e : bits (b ∷ []) ≡ b = omega arith in
     gave (λ x. x) _ _ _
-    (spelt_last more (up_to 2) ends _ _ b c.in_ok-first.ensures (not_more b c.if-first-lt128.true) ∙ ap (λ v. gives v (g.R.Reader.means c.read_u8.new.reader)) e)
+    (spelt_last more (up_to 2) ends _ _ b c.in_ok-first.ensures (lt-leb 128 b c.if-first-lt128.true) ∙ ap (λ v. gives v (g.R.Reader.means c.read_u8.new.reader)) e)
 
 pub returns-in_err-second : goal.returns-in_err-second
 returns-in_err-second g c =
     let b = c.in_ok-first.first in
     exits (λ x. x) c.from_residual-in_err-second.result c.in_err-second.field-0.0 _ _ c.from_residual-in_err-second.ensures.1
-    (spelt_more more (up_to 2) ends _ _ b c.in_ok-first.ensures (is_more b c.if-first-lt128.false)
+    (spelt_more more (up_to 2) ends _ _ b c.in_ok-first.ensures (le-leb 128 b c.if-first-lt128.false)
     ∙ spelt_fault more (up_to 1) (λ bs z. ends (b ∷ bs) z) _ _ _ c.in_err-second.ensures)
 
 pub returns-then-second-lt128 : goal.returns-then-second-lt128
@@ -48,13 +49,13 @@ returns-then-second-lt128 g c =
     let b = c.in_ok-first.first in
     let d = c.in_ok-second.second in
     gave (λ x. x) _ _ _
-    (spelt_more more (up_to 2) ends _ _ b c.in_ok-first.ensures (is_more b c.if-first-lt128.false)
-    ∙ spelt_last more (up_to 1) (λ bs z. ends (b ∷ bs) z) _ _ d c.in_ok-second.ensures (not_more d c.if-second-lt128.true)
+    (spelt_more more (up_to 2) ends _ _ b c.in_ok-first.ensures (le-leb 128 b c.if-first-lt128.false)
+    ∙ spelt_last more (up_to 1) (λ bs z. ends (b ∷ bs) z) _ _ d c.in_ok-second.ensures (lt-leb 128 d c.if-second-lt128.true)
     ∙ ap (λ v. gives v (g.R.Reader.means c.read_u8-2.new.reader)) (two-are b d))
 
 -- after two bytes that say more
 third : (b d : ℕ) (m a z : Meaning) → Did (λ (x : ℕ). x) (Ok b) a (fixed 1 m) → 128 ≤ b → Did (λ (x : ℕ). x) (Ok d) z (fixed 1 a) → 128 ≤ d → unsigned_16 m ≡ then (spelling (up_to 1) z) (λ bs y. ends (b ∷ d ∷ bs) y)
-third b d m a z p h q k = spelt_more more (up_to 2) ends m a b p (is_more b h) ∙ spelt_more more (up_to 1) (λ bs y. ends (b ∷ bs) y) a z d q (is_more d k)
+third b d m a z p h q k = spelt_more more (up_to 2) ends m a b p (le-leb 128 b h) ∙ spelt_more more (up_to 1) (λ bs y. ends (b ∷ bs) y) a z d q (le-leb 128 d k)
 
 pub returns-in_err-third : goal.returns-in_err-third
 returns-in_err-third g c =
