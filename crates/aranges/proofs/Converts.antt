@@ -1,12 +1,12 @@
 -- What next answers, from what next raw answers: both look at the same tuples.
-use Rattle.std.proofs.Common.{◌≡◌, ℕ, zero, suc, ◌+◌, ◌-◌, ◌*◌, ◌/◌, ◌^◌, ◌<◌, ◌≤◌, Bool, true, false, cond, ltb, leb, ◌⊎◌, length, IsErrAnd, Some, None, Ok, Err, Option, Result, sym, refl, ap, ◌∙◌, subst, inl, inr, ⊎_elim, arith, length-drop}
+use Rattle.std.proofs.Common.{◌≡◌, ℕ, zero, suc, ◌+◌, ◌-◌, ◌*◌, ◌/◌, ◌^◌, ◌<◌, ◌≤◌, Bool, true, false, cond, ltb, leb, ◌⊎◌, length, IsErrAnd, Some, None, Ok, Err, Option, Result, sym, refl, ap, ◌∙◌, subst, inl, inr, ⊎_elim, arith, length-drop, option_map}
 use native.Mathlib.Nat.{div-zero}
 use Rattle.std.proofs.lemmas.Bool.{cases_lt}
 use Rattle.std.proofs.lemmas.Result.{err_from_is_err_and}
 use Rattle.readers.specs.declared.error.Error.{Error}
 use Rattle.readers.specs.Outcome.{Outcome, answer, fault, fault_of}
 use Rattle.readers.specs.Reading.{Meaning, past, is_size}
-use Rattle.readers.specs.Links.{fault_is, option_is}
+use Rattle.readers.specs.Links.{fault_is}
 use Rattle.aranges.specs.declared.aranges.ArangeEntry.{ArangeEntry}
 use Rattle.aranges.specs.Tuples.{Kind, raw, converted, Entry, nothing, entry, overflow, refused, Told, found, failed, over, tuple, two, pair, is_null, convert}
 use Rattle.aranges.specs.Iterators.{Left, first, count, draw}
@@ -135,8 +135,8 @@ pub converts_ok : (l a : Left) (o x : Option ArangeEntry) → o ≡ x → Drew (
 converts_ok l a o x e d = converts l a (Ok x) (subst (λ (y : Option ArangeEntry). Drew (Ok y) a (draw raw l)) e d)
 
 -- the conversion's answer in the arm of a match
-pub said_ok : (a : Left) (o x : Option ArangeEntry) (y : Outcome (Option Entry)) → o ≡ x → answer (option_is entry_is o) ≡ y → next_of a y ≡ next_of a (answer (option_is entry_is x))
-said_ok a o x y e h = ap (next_of a) (sym h) ∙ ap (λ (z : Option ArangeEntry). next_of a (answer (option_is entry_is z))) e
+pub said_ok : (a : Left) (o x : Option ArangeEntry) (y : Outcome (Option Entry)) → o ≡ x → answer (option_map entry_is o) ≡ y → next_of a y ≡ next_of a (answer (option_map entry_is x))
+said_ok a o x y e h = ap (next_of a) (sym h) ∙ ap (λ (z : Option ArangeEntry). next_of a (answer (option_map entry_is z))) e
 
 -- what the conversion gives where the size is that of an address
 pub sized_so : (s : ℕ) {x y : Outcome (Option Entry)} → is_size s ≡ true → x ≡ cond (is_size s) y (fault_of 4 s) → x ≡ y

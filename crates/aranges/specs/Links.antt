@@ -1,9 +1,9 @@
 -- How the code's headers, entries and iterators stand for those of the definitions.
-use Rattle.std.specs.Prelude.{◌≡◌, ℕ, Some, None, Option, Result}
+use Rattle.std.specs.Prelude.{◌≡◌, ℕ, Some, None, Option, Result, option_map}
 use Rattle.readers.specs.declared.error.Error.{Error}
 use Rattle.readers.specs.Outcome.{Outcome, answer, fault, fault_of}
 use Rattle.readers.specs.Reading.{Meaning}
-use Rattle.readers.specs.Links.{word_of, outcome_is, option_is}
+use Rattle.readers.specs.Links.{word_of, outcome_is}
 use Rattle.aranges.specs.declared.aranges.ArangeEntry.{ArangeEntry}
 use Rattle.aranges.specs.declared.aranges.ArangeEntryIter.{ArangeEntryIter}
 use Rattle.aranges.specs.declared.aranges.ArangeHeader.{ArangeHeader}
@@ -39,7 +39,7 @@ told_of (answer None) = over
 told_of (fault f) = failed f
 
 abbrev pub told_is : Result (Option ArangeEntry) Error → Told
-told_is r = told_of (outcome_is (option_is entry_is) r)
+told_is r = told_of (outcome_is (option_map entry_is) r)
 
 abbrev pub entries_is : {R O : Type 0} → (R → Meaning) → ArangeEntryIter R O → Left
 entries_is means i = record { size = i.encoding.address_size; tuples = means i.input }

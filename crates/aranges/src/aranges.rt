@@ -1,8 +1,8 @@
 // The section `.debug_aranges`: sets, each with a header and the tuples of one unit.
-ghost use Rattle.std.specs.Prelude.{◌≡◌, ℕ, length, MatchResult, if◌then◌else◌, ◌-◌, ◌%◌, ◌<◌};
+ghost use Rattle.std.specs.Prelude.{◌≡◌, ℕ, length, MatchResult, if◌then◌else◌, ◌-◌, ◌%◌, ◌<◌, option_map};
 ghost use Rattle.readers.specs.Outcome.{fault_of};
 ghost use Rattle.readers.specs.Reading.{emptied, skipped, is_size};
-ghost use Rattle.readers.specs.Links.{Did, outcome_is, option_is, word_of};
+ghost use Rattle.readers.specs.Links.{Did, outcome_is, word_of};
 ghost use Rattle.aranges.specs.Sets.{version as versioned, sizes, padding as padded, header_size, header_past, fields, set_step};
 ghost use Rattle.aranges.specs.Tuples.{two, convert, raw, converted};
 ghost use Rattle.aranges.specs.Iterators.{entries_of, next_set, draw};
@@ -70,7 +70,7 @@ pub struct ArangeHeaderIter<R: AddressReader> {
 impl<R: AddressReader> ArangeHeaderIter<R> {
     /// The next header; a fault leaves no more.
     pub fn next(&mut self) -> Result<Option<ArangeHeader<R>>, Error>
-        ensures did { Did (option_is (header_is R.Reader.means R.Offset.ReaderOffset.number)) result (R.Reader.means self.new.input) (next_set R.Offset.ReaderOffset.limit self.old.start (R.Reader.means self.old.input)) }
+        ensures did { Did (option_map (header_is R.Reader.means R.Offset.ReaderOffset.number)) result (R.Reader.means self.new.input) (next_set R.Offset.ReaderOffset.limit self.old.start (R.Reader.means self.old.input)) }
         ensures start { self.new.start ≡ self.old.start }
     {
         if is_empty(&self.input) {
@@ -278,6 +278,7 @@ impl<R: AddressReader> ArangeEntryIter<R> {
             let tuple = read_tuple(&mut self.input, address_size);
             let (begin, length) = or_empty(&mut self.input, tuple)?;
             if begin != 0 || length != 0 {
+                // an end of 0 and not None: a tuple as it stands has the same type, and gimli's end
                 return Ok(Some(ArangeEntry {
                     range: Range { begin, end: 0 },
                     length,
@@ -290,7 +291,7 @@ impl<R: AddressReader> ArangeEntryIter<R> {
 
     /// The range of a tuple from `next_raw`, or none if its begin stands for code that is not there.
     pub fn convert_raw(&self, entry: ArangeEntry) -> Result<Option<ArangeEntry>, Error>
-        ensures { outcome_is (option_is entry_is) result ≡ (if is_size self.now.encoding.address_size then said (convert self.now.encoding.address_size entry.range.begin entry.length) else fault_of 4 self.now.encoding.address_size) }
+        ensures { outcome_is (option_map entry_is) result ≡ (if is_size self.now.encoding.address_size then said (convert self.now.encoding.address_size entry.range.begin entry.length) else fault_of 4 self.now.encoding.address_size) }
     {
         let address_size = self.encoding.address_size;
         let begin = entry.range.begin;

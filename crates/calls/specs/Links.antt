@@ -1,7 +1,7 @@
 -- How the code's calls and answers stand for those of a history.
-use Rattle.std.specs.Prelude.{ℕ}
+use Rattle.std.specs.Prelude.{ℕ, option_map}
 use Rattle.readers.specs.Reading.{Meaning}
-use Rattle.readers.specs.Links.{outcome_is, option_is}
+use Rattle.readers.specs.Links.{outcome_is}
 use Rattle.aranges.specs.Tuples.{raw, converted}
 use Rattle.aranges.specs.Links.{header_is, told_is}
 use Rattle.walk.specs.Events.{Event, header, entries, told, looked}
@@ -22,7 +22,7 @@ call_is (AskLookup address) = lookup_call address
 
 -- a call with its answer
 abbrev pub event_is : {R O : Type 0} → (R → Meaning) → (O → ℕ) → Answer R O → Event
-event_is means number (Header r) = header (outcome_is (option_is (header_is means number)) r)
+event_is means number (Header r) = header (outcome_is (option_map (header_is means number)) r)
 event_is means number (Entries r) = entries (outcome_is (λ x. x) r)
 event_is means number (Next r) = told converted (told_is r)
 event_is means number (NextRaw r) = told raw (told_is r)

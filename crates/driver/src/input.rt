@@ -41,6 +41,7 @@ impl From<AllocError> for Stop {
     }
 }
 
+// std tells want of memory by two types: a push hands back what it could not keep.
 impl<T: Drop> From<AllocFailed<T>> for Stop {
     ghost from_gives = { λ _ r. r ≡ NoMemory };
 
@@ -100,7 +101,7 @@ fn read_records(heap: Global, input: &mut EndianSlice) -> Result<Vec<Relocation>
         return Err(Stop::Malformed);
     }
     let mut records = Vec::new(heap);
-    // Tried by map and try_collect: no clause of theirs says where they leave the input, and the proof didn't close.
+    // tried by map and collect: their clauses don't say where they leave the input, and the proof didn't close
     for _ in 0..count {
         records.push(read_record(input)?)?;
     }

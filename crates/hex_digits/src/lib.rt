@@ -17,6 +17,7 @@ pub fn decode(heap: Global, digits: &[u8]) -> Result<Vec<u8>, AllocError>
         .collect(heap)
 }
 
+// 0 and not None for what is no digit: recorded inputs are read to their end, whatever they hold.
 fn digit_value(digit: u8) -> u8
     ensures is { result ≡ value digit }
     ensures low { result < 16 }

@@ -44,6 +44,7 @@ fn open(section: &[u8], big: bool) -> Result<EndianSlice<'_>, Error> {
     EndianSlice::new(section, 0, endian(big))
 }
 
+// The C interface tells the order by a bool.
 fn endian(big: bool) -> RunTimeEndian {
     if big {
         RunTimeEndian::Big

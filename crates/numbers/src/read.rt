@@ -55,6 +55,7 @@ pub fn read_u64<R: Reader>(reader: &mut R) -> Result<u64, Error>
     Ok(u64::from_le_bytes(read_array(reader)?))
 }
 
+// The signed reads are one line each: one over the type would need a trait, with an impl a type, of their casts.
 /// A signed number of one byte.
 pub fn read_i8<R: Reader>(reader: &mut R) -> Result<i8, Error>
     ensures { Did (λ x. x) result (R.Reader.means reader.new) (signed 1 (R.Reader.means reader.old)) }
@@ -111,6 +112,7 @@ pub fn read_word<R: Reader>(reader: &mut R, format: Format) -> Result<R::Offset,
     R::Offset::from_u64(value)
 }
 
+// gimli has both names, of which one tells what the word is.
 /// A length of the format's width.
 pub fn read_length<R: Reader>(reader: &mut R, format: Format) -> Result<R::Offset, Error>
     ensures { Did R.Offset.ReaderOffset.number result (R.Reader.means reader.new) (word R.Offset.ReaderOffset.limit (word_of format) (R.Reader.means reader.old)) }

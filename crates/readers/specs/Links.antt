@@ -31,10 +31,6 @@ abbrev pub outcome_is : {A B : Type 0} → (A → B) → Result A Error → Outc
 outcome_is f (Ok x) = answer (f x)
 outcome_is f (Err e) = fault (fault_is e)
 
-abbrev pub option_is : {A B : Type 0} → (A → B) → Option A → Option B
-option_is f (Some x) = Some (f x)
-option_is f None = None
-
 abbrev pub is_big : RunTimeEndian → Bool
 is_big Little = false
 is_big Big = true

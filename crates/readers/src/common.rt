@@ -32,6 +32,7 @@ impl Format {
     }
 }
 
+// The sizes are numbers, as in gimli: a caller may name any, and it is a read that refuses one.
 /// What the numbers of a unit or a set are read by.
 #[derive(Clone, Copy)]
 pub struct Encoding {
@@ -40,6 +41,7 @@ pub struct Encoding {
     pub version: u16,
 }
 
+// Two types, as in gimli, so that the places of two sections are never mixed.
 /// An offset into `.debug_aranges`.
 #[derive(Clone, Copy)]
 pub struct DebugArangesOffset<T>(pub T);

@@ -72,15 +72,15 @@ impl Error {
             Error::UnknownVersion(version) => version as u64,
             Error::UnsupportedAddressSize(size) => size as u64,
             Error::UnsupportedSegmentSize(size) => size as u64,
-            Error::UnsupportedOffset => 0,
             Error::UnsupportedOffsetSize(size) => size as u64,
-            Error::BadUnsignedLeb128 => 0,
-            Error::BadSignedLeb128 => 0,
-            Error::AddressOverflow => 0,
-            Error::SectionTooLong => 0,
-            Error::NothingOpen => 0,
             Error::RelocationRefused(offset) => offset,
             Error::BadLength(len) => len as u64,
+            Error::UnsupportedOffset
+            | Error::BadUnsignedLeb128
+            | Error::BadSignedLeb128
+            | Error::AddressOverflow
+            | Error::SectionTooLong
+            | Error::NothingOpen => 0,
         }
     }
 }

@@ -1,8 +1,8 @@
 // What a reader is: its offsets, its meaning, and what each call answers and leaves.
-ghost use Rattle.std.specs.Prelude.{◌≡◌, ℕ, ◌^◌, length};
+ghost use Rattle.std.specs.Prelude.{◌≡◌, ℕ, ◌^◌, length, option_map};
 ghost use Rattle.readers.specs.Outcome.{Outcome};
 ghost use Rattle.readers.specs.Reading.{Meaning, emptied, skipped, truncated, split_off, copied, position, distance, distance_within, fitting, address, offset, sized_offset};
-ghost use Rattle.readers.specs.Links.{Did, Filled, is_big, outcome_is, option_is, word_of};
+ghost use Rattle.readers.specs.Links.{Did, Filled, is_big, outcome_is, word_of};
 
 use crate::common::Format;
 use crate::endianity::RunTimeEndian;
@@ -37,6 +37,7 @@ pub trait ReaderOffset: Copy {
         ensures { result ≡ number self };
 }
 
+// An impl for each type: no traits of std go over all three, and each body is the type's own cast.
 impl ReaderOffset for u32 {
     ghost number = { λ x. x };
 
@@ -110,6 +111,7 @@ pub trait Reader: Sized + Drop {
     fn offset_id(&self) -> ReaderOffsetId
         ensures { result.0 ≡ (means self.now).id };
 
+    // Not std's Clone, whose clone may find no memory: this one never fails, and says what it answers.
     /// A second reader of equal meaning.
     fn clone(&self) -> Self
         ensures { means result ≡ means self.now };
@@ -140,11 +142,11 @@ pub trait Reader: Sized + Drop {
 
     /// The distance of an id from the next byte's, if the id is one of this reader's.
     fn lookup_offset_id(&self, id: ReaderOffsetId) -> Option<Self::Offset>
-        ensures { option_is Self.Offset.ReaderOffset.number result ≡ distance (means self.now) id.0 };
+        ensures { option_map Self.Offset.ReaderOffset.number result ≡ distance (means self.now) id.0 };
 
     /// The distance from the start of `base`, if this reader's bytes lie within those of `base`.
     fn offset_from(&self, base: &Self) -> Option<Self::Offset>
-        ensures { option_is Self.Offset.ReaderOffset.number result ≡ distance_within (means self.now) (means base.now) };
+        ensures { option_map Self.Offset.ReaderOffset.number result ≡ distance_within (means self.now) (means base.now) };
 }
 
 /// Reads of addresses and offsets, which relocation may change.

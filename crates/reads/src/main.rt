@@ -145,6 +145,7 @@ fn relocated_read(text: &str) -> Option<Request<'_>> {
     Some(Request::ReadRelocated(section, layers, call_of(words.next()?)?))
 }
 
+// No FromStr for the kind and the order: whatever is not 0 is 1, so that nothing is refused.
 impl<'a> Section<'a> {
     fn new(kind: &str, order: &str, digits: &'a str) -> Section<'a> {
         Section {
@@ -221,6 +222,7 @@ fn call_with(name: &str, number: u64) -> Option<ReadCall> {
     })
 }
 
+// No TryFrom: Format is another crate's, as is u64.
 // The format whose words have so many bytes.
 fn format_of(word_size: u64) -> Option<Format> {
     match word_size {

@@ -132,6 +132,7 @@ impl<R: Reader, T: Relocate> Reader for RelocateReader<R, T> {
     }
 }
 
+// Three reads that differ in the call below: one over that call, a closure, would need a contract on the closure's.
 impl<R: AddressReader, T: Relocate> AddressReader for RelocateReader<R, T> {
     #[tactic(auto, using(crate::proofs::Layers::address_layered))]
     fn read_address(&mut self, address_size: u8) -> Result<u64, Error> {

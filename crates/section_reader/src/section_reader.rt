@@ -11,6 +11,7 @@ use std::marker::PhantomData;
 
 /// A part of the caller's section that is read from the front, with a byte order and a kind of offset.
 pub struct SectionReader<'a, O: ReaderOffset> {
+    // the whole section beside a place in it and not the bytes left alone, so that contracts can tell the place
     section: &'a [u8],
     // the place of the next byte, and how many are left
     first: usize,
@@ -117,6 +118,7 @@ impl<O: ReaderOffset> Reader for SectionReader<'_, O> {
         *self
     }
 
+    // `kept`, here and below, ties the reader to the one before the call, which no invariant of the type can
     fn empty(&mut self)
         ensures did { section_means self.new ≡ emptied (section_means self.old) }
         ensures kept { Kept self.new self.old }

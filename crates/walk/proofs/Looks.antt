@@ -1,7 +1,7 @@
 -- A lookup over the sets, from what next header answers.
-use Rattle.std.proofs.Common.{◌≡◌, ℕ, zero, suc, ◌+◌, ◌<◌, ◌≤◌, length, Some, None, Ok, Option, Result, sym, refl, ap, ◌∙◌, subst, arith}
+use Rattle.std.proofs.Common.{◌≡◌, ℕ, zero, suc, ◌+◌, ◌<◌, ◌≤◌, length, Some, None, Ok, Option, Result, sym, refl, ap, ◌∙◌, subst, arith, option_map}
 use Rattle.readers.specs.declared.error.Error.{Error}
-use Rattle.readers.specs.Links.{Did, outcome_is, option_is}
+use Rattle.readers.specs.Links.{Did, outcome_is}
 use Rattle.readers.specs.Outcome.{Outcome, answer, fault}
 use Rattle.readers.specs.Reading.{Meaning}
 use Rattle.aranges.specs.Sets.{Header}
@@ -44,19 +44,19 @@ look_step limit b a c m =
     (λ h e d. let s = next_shorter limit b m h e in look_fuel limit b a d (length m.rest) (length (next_set limit b m).after.rest) (next_set limit b m).after (omega arith) (omega arith))
 
 -- a lookup by what next header answered, which leaves `after`
-pub looks : {A : Type 0} (f : A → Header) (limit b s a c : ℕ) (m after : Meaning) (r : Result (Option A) Error) → s ≡ b → Did (option_is f) r after (next_set limit s m)
-    → look_all limit b a c m ≡ look_by a c (outcome_is (option_is f) r) (λ d. look_all limit b a d after)
+pub looks : {A : Type 0} (f : A → Header) (limit b s a c : ℕ) (m after : Meaning) (r : Result (Option A) Error) → s ≡ b → Did (option_map f) r after (next_set limit s m)
+    → look_all limit b a c m ≡ look_by a c (outcome_is (option_map f) r) (λ d. look_all limit b a d after)
 looks {A = A} f limit b s a c m after r q d =
-    let e : Did (option_is f) r after (next_set limit b m) = subst (λ (x : ℕ). Did (option_is f) r after (next_set limit x m)) q d in
+    let e : Did (option_map f) r after (next_set limit b m) = subst (λ (x : ℕ). Did (option_map f) r after (next_set limit x m)) q d in
     look_step limit b a c m
     ∙ ap (λ (o : Outcome (Option Header)). look_by a c o (λ d. look_all limit b a d (next_set limit b m).after)) (sym e.answers)
-    ∙ ap (λ (n : Meaning). look_by a c (outcome_is (option_is f) r) (λ d. look_all limit b a d n)) (sym e.leaves)
+    ∙ ap (λ (n : Meaning). look_by a c (outcome_is (option_map f) r) (λ d. look_all limit b a d n)) (sym e.leaves)
 
 -- the same in the arm of a match
-pub in_arm : {A : Type 0} (f : A → Header) (limit s : ℕ) (m after : Meaning) (o x : Option A) → o ≡ x → Did (option_is f) (Ok o) after (next_set limit s m) → Did (option_is f) (Ok x) after (next_set limit s m)
-in_arm {A = A} f limit s m after o x e d = subst (λ (y : Option A). Did (option_is f) (Ok y) after (next_set limit s m)) e d
+pub in_arm : {A : Type 0} (f : A → Header) (limit s : ℕ) (m after : Meaning) (o x : Option A) → o ≡ x → Did (option_map f) (Ok o) after (next_set limit s m) → Did (option_map f) (Ok x) after (next_set limit s m)
+in_arm {A = A} f limit s m after o x e d = subst (λ (y : Option A). Did (option_map f) (Ok y) after (next_set limit s m)) e d
 
-pub looks_shorter : {A : Type 0} (f : A → Header) (limit s : ℕ) (m after : Meaning) (o : Option A) (x : A) → o ≡ Some x → Did (option_is f) (Ok o) after (next_set limit s m)
+pub looks_shorter : {A : Type 0} (f : A → Header) (limit s : ℕ) (m after : Meaning) (o : Option A) (x : A) → o ≡ Some x → Did (option_map f) (Ok o) after (next_set limit s m)
     → length (f x).tuples.rest + length after.rest < length m.rest
 looks_shorter f limit s m after o x p d =
     let a = in_arm f limit s m after o (Some x) p d in

@@ -1,8 +1,8 @@
 -- How the code's walk, calls and lookups stand for those of the definitions.
-use Rattle.std.specs.Prelude.{◌≡◌, ℕ, Some, None, Ok, Err, Option, Result}
+use Rattle.std.specs.Prelude.{◌≡◌, ℕ, Some, None, Ok, Err, Option, Result, option_map}
 use Rattle.readers.specs.declared.error.Error.{Error}
 use Rattle.readers.specs.Reading.{Meaning}
-use Rattle.readers.specs.Links.{fault_is, option_is}
+use Rattle.readers.specs.Links.{fault_is}
 use Rattle.aranges.specs.declared.aranges.ArangeEntry.{ArangeEntry}
 use Rattle.aranges.specs.Links.{header_is, entry_is, entries_is}
 use Rattle.walk.specs.declared.lookup.Found.{Found}
@@ -19,8 +19,8 @@ walk_is means number w =
       whole = means w.section.section;
       start = w.headers.start;
       ahead = means w.headers.input;
-      newest = option_is (header_is means number) w.latest;
-      left = option_is (entries_is means) w.tuples;
+      newest = option_map (header_is means number) w.latest;
+      left = option_map (entries_is means) w.tuples;
     }
 
 -- a call of the walk: what happened, and the walk that it leaves

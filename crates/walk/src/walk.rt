@@ -1,6 +1,6 @@
 // The open walk: the headers of a section, and the tuples of one set.
-ghost use Rattle.std.specs.Prelude.{◌≡◌, ℕ};
-ghost use Rattle.readers.specs.Links.{outcome_is, option_is};
+ghost use Rattle.std.specs.Prelude.{◌≡◌, ℕ, option_map};
+ghost use Rattle.readers.specs.Links.{outcome_is};
 ghost use Rattle.aranges.specs.Tuples.{raw, converted};
 ghost use Rattle.aranges.specs.Links.{header_is, told_is};
 ghost use Rattle.walk.specs.Events.{header as headed, entries as entered, told};
@@ -41,7 +41,7 @@ impl<R: AddressReader> Walk<R> {
 
     /// The next header, which is the latest then. A fault leaves no more headers.
     pub fn next_header(&mut self) -> Result<Option<ArangeHeader<R>>, Error>
-        ensures { Took (headed (outcome_is (option_is (header_is R.Reader.means R.Offset.ReaderOffset.number)) result)) (walk_is R.Reader.means R.Offset.ReaderOffset.number self.new) (turn_header R.Offset.ReaderOffset.limit (walk_is R.Reader.means R.Offset.ReaderOffset.number self.old)) }
+        ensures { Took (headed (outcome_is (option_map (header_is R.Reader.means R.Offset.ReaderOffset.number)) result)) (walk_is R.Reader.means R.Offset.ReaderOffset.number self.new) (turn_header R.Offset.ReaderOffset.limit (walk_is R.Reader.means R.Offset.ReaderOffset.number self.old)) }
     {
         let next = self.headers.next()?;
         if let Some(header) = &next {
