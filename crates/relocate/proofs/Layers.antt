@@ -1,7 +1,7 @@
 -- A layer of relocation over a reader: each relocated read is the reader's own, and then the policy's answer.
-use Rattle.std.proofs.Common.{◌≡◌, ℕ, ◌-◌, true, false, cond, leb, length, take, refl, ap, ◌∙◌}
+use Rattle.std.proofs.Common.{◌≡◌, ℕ, ◌-◌, refl, ap, ◌∙◌, arith}
 use Rattle.readers.specs.Outcome.{Outcome, answer, fault}
-use Rattle.readers.specs.Reading.{Meaning, Step, gives, refuses, then, past, spelt, fixed, is_size, sized, fitting, fitted, relocated, word, sized_word, address, offset, sized_offset}
+use Rattle.readers.specs.Reading.{Meaning, Step, then, fixed, sized, fitting, fitted, relocated, word, sized_word, address, offset, sized_offset}
 use Rattle.relocate.specs.Relocating.{layered, and_then}
 
 module _ (limit : ℕ) (addresses offsets : ℕ → ℕ → Outcome ℕ) (start : ℕ) (m : Meaning) where
@@ -21,14 +21,10 @@ module _ (limit : ℕ) (addresses offsets : ℕ → ℕ → Outcome ℕ) (start 
   refitted x = and_then (offsets (m.id - start) x) (fitting limit)
 
   fixed_over : (n : ℕ) → fixed n (over m) ≡ lifted (fixed n m)
-  fixed_over n =
-      elim (leb n (length m.rest)) as (λ b. cond b (gives (spelt m.big (take n m.rest)) (past n (over m))) (refuses 1 m.id (over m)) ≡ lifted (cond b (gives (spelt m.big (take n m.rest)) (past n m)) (refuses 1 m.id m)))
-      [ true ↦ refl | false ↦ refl ]
+  fixed_over n = grind arith
 
   sized_over : (f s : ℕ) → sized f s (over m) ≡ lifted (sized f s m)
-  sized_over f s =
-      elim (is_size s) as (λ b. cond b (fixed s (over m)) (refuses f s (over m)) ≡ lifted (cond b (fixed s m) (refuses f s m)))
-      [ true ↦ fixed_over s | false ↦ refl ]
+  sized_over f s = let e = fixed_over s in grind arith
 
   fitted_by : (o : Outcome ℕ) (a : Meaning) → then (lifted (record { outcome = o; after = a })) (fitted limit) ≡ lifted (then (record { outcome = o; after = a }) (fitted limit))
   fitted_by (answer x) a = refl
