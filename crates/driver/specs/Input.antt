@@ -39,9 +39,7 @@ kind_for n =
 
 -- a reader kind, one byte
 abbrev pub a_kind : ℕ → Meaning → Step ReaderKind
-a_kind n m =
-    cond (n == 0) (gives EndianSlice m) (cond (n == 1) (gives EndianReader m)
-    (cond (n == 2) (gives RelocatedSlice m) (cond (n == 3) (gives RelocatedReader m) (malformed m))))
+a_kind n m = elim (kind_for n) [ Some k ↦ gives k m | None ↦ malformed m ]
 
 -- the reader kind that an input begins with
 abbrev pub kind_step : Meaning → Step ReaderKind
