@@ -89,7 +89,6 @@ fn less_twice(value: u64, half: u64) -> i64
     (value - half) as i64 - half as i64
 }
 
-// The loop stays apart from the unsigned one: one for both would have to answer the last byte and its place too.
 /// A signed number of at most ten bytes.
 pub fn read_sleb128<R: Reader>(reader: &mut R) -> Result<i64, Error>
     ensures { Did (λ x. x) result (R.Reader.means reader.new) (signed (R.Reader.means reader.old)) }
