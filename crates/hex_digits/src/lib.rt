@@ -17,7 +17,7 @@ pub fn decode(heap: Global, digits: &[u8]) -> Result<Vec<u8>, AllocError>
         .collect(heap)
 }
 
-// 0 and not None for what is no digit: recorded inputs are read to their end, whatever they hold.
+// `to_digit` of `char` would also count A to F, which are no digits here.
 fn digit_value(digit: u8) -> u8
     ensures is { result ≡ value digit }
     ensures low { result < 16 }
