@@ -49,7 +49,7 @@ pub fn answer_calls<R: AddressReader>(
     Ok(answers)
 }
 
-// One call of the walk, and its answer. Which call is a value, as a list from the input says.
+// One call of the walk, and its answer. A match and no closures: calls are values, read from the input.
 fn answer_call<R: AddressReader>(walk: &mut Walk<R>, call: Call) -> Answer<R>
     ensures { Took (event_is R.Reader.means R.Offset.ReaderOffset.number result) (walk_is R.Reader.means R.Offset.ReaderOffset.number walk.new) (step R.Offset.ReaderOffset.limit (call_is call) (walk_is R.Reader.means R.Offset.ReaderOffset.number walk.old)) }
 {
