@@ -17,7 +17,7 @@ pub fn decode(heap: Global, digits: &[u8]) -> Result<Vec<u8>, AllocError>
         .collect(heap)
 }
 
-// `to_digit` of `char` would also count A to F, which are no digits here.
+// 0, and no None, for what is no digit; A to F are none, so that `to_digit` of char does not do.
 fn digit_value(digit: u8) -> u8
     ensures is { result ≡ value digit }
     ensures low { result < 16 }
