@@ -1,5 +1,5 @@
 -- How the code's values stand for what the definitions speak of: faults, outcomes, orders, formats.
-use Rattle.std.specs.Prelude.{◌≡◌, ℕ, Bool, true, false, List, Some, None, Ok, Err, Option, Result}
+use Rattle.std.specs.Prelude.{◌≡◌, ℕ, Bool, true, false, List, Ok, Err, Result}
 use Rattle.readers.specs.declared.common.Format.{Format}
 use Rattle.readers.specs.declared.common.Format.TheVariants.{Dwarf32, Dwarf64}
 use Rattle.readers.specs.declared.endianity.RunTimeEndian.{RunTimeEndian}
