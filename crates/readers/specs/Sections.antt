@@ -1,5 +1,5 @@
--- A section in memory: its parts, the ids of its places, and what opening it gives.
-use Rattle.std.specs.Prelude.{ℕ, ◌+◌, ◌-◌, ◌^◌, min, Bool, cond, List, length, take, drop}
+-- A section in memory: its parts, its ids, and what opening it gives.
+use Rattle.std.specs.Prelude.{ℕ, ◌-◌, ◌^◌, Bool, cond, List, take, drop}
 use Rattle.readers.specs.Outcome.{Outcome, answer, fault_of}
 use Rattle.readers.specs.Reading.{Meaning, plain}
 
@@ -10,10 +10,6 @@ part first n section = take n (drop first section)
 -- the highest id
 abbrev pub highest : ℕ
 highest = 2 ^ 64 - 1
-
--- the id of a place of a section: its base, as far as the section's ids then stay in range, plus the place
-abbrev pub id_of : ℕ → ℕ → List ℕ → ℕ
-id_of base first section = min base (highest - length section) + min first (length section)
 
 -- what opening a section gives, where the ids and the offsets can name all of it
 abbrev pub opened : Bool → ℕ → List ℕ → Bool → Outcome Meaning
