@@ -21,6 +21,7 @@ pub enum Call {
     Lookup(u64),
 }
 
+// Drop alone: a header holds a reader, which neither compares nor prints.
 /// What a call answered; of a lookup, also its address.
 #[derive(Drop)]
 pub enum Answer<R: AddressReader> {
@@ -31,6 +32,7 @@ pub enum Answer<R: AddressReader> {
     Lookup(u64, Result<Lookup<R::Offset>, Error>),
 }
 
+// Clauses give `event_is` the bound's members each time, for the reason that stands at the walk.
 /// The answers of a fresh walk over a section to a list of calls, one after another.
 pub fn answer_calls<R: AddressReader>(
     heap: Global,
@@ -42,7 +44,7 @@ pub fn answer_calls<R: AddressReader>(
 {
     let mut walk = Walk::new(section);
     let mut answers = Vec::new(heap);
-    // no chain: a closure that changes the walk under `map` tells a proof nothing of the answers
+    // tried as a chain: a closure that changes the walk under `map` tells a proof nothing of the answers
     for call in calls {
         answers.push(answer_call(&mut walk, *call))?;
     }

@@ -146,8 +146,8 @@ pub fn read_head<'a>(heap: Global, input: &mut EndianSlice<'a>) -> Result<Head<'
     })
 }
 
+// Not Call: a letter is a command before a lookup's address is read, and the rules of the input speak of letters.
 /// What a command letter stands for.
-// No twin of Call: the letter alone names a command, and a lookup's address is no part of it.
 #[derive(Clone, Copy, PartialEq, Eq, Debug)]
 pub enum Command {
     NextHeader,
@@ -179,6 +179,7 @@ impl TryFrom<char> for Command {
 pub fn read_commands(mut input: EndianSlice, calls: &mut Vec<Call>) -> Result<(), Stop>
     ensures { Asked result (section_means input.entry) (map call_is calls.old.items) (map call_is calls.new.items) }
 {
+    // a loop, for the reason that stands at the records
     while input.len() > 0 {
         calls.push(read_call(&mut input)?)?;
     }

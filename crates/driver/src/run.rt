@@ -44,6 +44,7 @@ fn write_lines(heap: Global, input: &[u8], out: &mut String) -> Result<(), Stop>
 fn write_answers(heap: Global, head: &Head, calls: &[Call], out: &mut String) -> Result<(), Stop>
     ensures { Added result (string_bytes out.old) (string_bytes out.new) (Walked (limit_of head.now.kind) (opened_by (heading_is head.now)) (map call_is calls.now)) }
 {
+    // a match: each kind is a reader of its own type
     match head.kind {
         ReaderKind::EndianSlice => walk_section(heap, head.open::<usize>()?, calls, out)?,
         ReaderKind::EndianReader => walk_section(heap, head.open::<u32>()?, calls, out)?,
@@ -66,6 +67,7 @@ fn walk_section<R: AddressReader>(
     ensures { OnOk result (Adds (string_bytes out.old) (string_bytes out.new) (Walked R.Offset.ReaderOffset.limit (R.Reader.means section) (map call_is calls.now))) }
 {
     let answers = answer_calls(heap, section, calls)?;
+    // a loop: each line may find no memory
     for answer in &answers {
         let line = line(heap, answer)?;
         out.push_str(line.as_str())?;

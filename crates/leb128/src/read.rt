@@ -59,6 +59,7 @@ pub fn read_uleb128_u32<R: Reader>(reader: &mut R) -> Result<u32, Error>
     u32::try_from(value).map_err(|_| Error::BadUnsignedLeb128)
 }
 
+// No loop, as in gimli: three bytes at most, in 16 bits, and the third has a limit of its own.
 /// An unsigned number of at most three bytes, which 16 bits hold.
 pub fn read_uleb128_u16<R: Reader>(reader: &mut R) -> Result<u16, Error>
     ensures { Did (λ x. x) result (R.Reader.means reader.new) (unsigned_16 (R.Reader.means reader.old)) }
@@ -79,7 +80,8 @@ pub fn read_uleb128_u16<R: Reader>(reader: &mut R) -> Result<u16, Error>
     Ok(result | (third as u16) << 14)
 }
 
-// `value` less twice `half`; twice `half` may be more than an i64 holds.
+// `value` less twice `half`; twice `half` may be more than an i64 holds. In the rule's words, the bits less 2^(7n): with
+// the bits above the sign set instead, a reader would have to see that these mean the same.
 fn less_twice(value: u64, half: u64) -> i64
     requires half { half < 2 ^ 63 }
     requires least { half ≤ value }

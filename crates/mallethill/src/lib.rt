@@ -16,6 +16,7 @@ pub extern "C" fn mallethill_lookup(section: &[u8], big: bool, address: u64) -> 
     }
 }
 
+// Here and below, where the section does not open, `out` stays as it was: the C interface tells no fault.
 #[unsafe(no_mangle)]
 pub extern "C" fn mallethill_sum(section: &[u8], big: bool, out: &mut u64) {
     if let Ok(reader) = open(section, big) {
@@ -56,10 +57,7 @@ fn endian(big: bool) -> RunTimeEndian {
 // The place of the set that holds the address, or how many faulty tuples were passed where none does.
 fn look_up<R: AddressReader>(reader: R, address: u64) -> Result<u64, Error> {
     let lookup = lookup_address(&DebugAranges::new(reader), address)?;
-    Ok(match lookup.found {
-        Some(found) => found.set.0,
-        None => lookup.passed,
-    })
+    Ok(lookup.found.map_or(lookup.passed, |found| found.set.0))
 }
 
 // What `value` makes of the headers, up to the first that is refused.

@@ -30,8 +30,6 @@ pub fn add_sized(address: u64, length: u64, size: u8) -> Result<u64, Error>
     ensures { outcome_is (λ x. x) result ≡ added address length size }
 {
     let ones = ones_sized(size)?;
-    match address.checked_add(length) {
-        Some(end) if end <= ones => Ok(end),
-        _ => Err(Error::AddressOverflow),
-    }
+    let end = address.checked_add(length).filter(|end| *end <= ones);
+    end.ok_or(Error::AddressOverflow)
 }

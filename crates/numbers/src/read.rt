@@ -66,7 +66,7 @@ pub fn read_u64<R: Reader>(reader: &mut R) -> Result<u64, Error>
     })
 }
 
-// The signed reads are one line each: one over the type would need a trait, with an impl a type, of their casts.
+// Four names, as in gimli, each one line over the unsigned read.
 /// A signed number of one byte.
 pub fn read_i8<R: Reader>(reader: &mut R) -> Result<i8, Error>
     ensures { Did (λ x. x) result (R.Reader.means reader.new) (signed 1 (R.Reader.means reader.old)) }

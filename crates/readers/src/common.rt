@@ -10,6 +10,7 @@ pub enum Format {
     Dwarf32,
 }
 
+// Two matches, as gimli has two methods.
 impl Format {
     /// How many bytes an initial length takes.
     pub fn initial_length_size(self) -> u8

@@ -37,7 +37,7 @@ pub trait ReaderOffset: Copy {
         ensures { result ≡ number self };
 }
 
-// An impl for each type: no traits of std go over all three, and each body is the type's own cast.
+// An impl for each type, as in gimli: each has its own limit, and std's conversions between these types can all fail.
 impl ReaderOffset for u32 {
     ghost number = { λ x. x };
 

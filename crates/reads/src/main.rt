@@ -19,38 +19,38 @@ use std::io::{BufRead, BufReader};
 use std::{fmt, io};
 
 // What a line asks.
-#[derive(Clone, Copy)]
+#[derive(Clone, Copy, PartialEq, Eq, Debug)]
 enum Request<'a> {
     WriteUnsigned(u64),
     WriteSigned(i64),
     Read(Section<'a>, ReadCall),
-    ReadRelocated(Section<'a>, Layers<'a>, ReadCall),
+    ReadRelocated(Section<'a>, Layers<&'a str>, ReadCall),
 }
 
 // The bytes of a section in digits, and by what they are read.
-#[derive(Clone, Copy)]
+#[derive(Clone, Copy, PartialEq, Eq, Debug)]
 struct Section<'a> {
     kind: Kind,
     order: RunTimeEndian,
     digits: &'a str,
 }
 
-#[derive(Clone, Copy)]
+#[derive(Clone, Copy, PartialEq, Eq, Debug)]
 enum Kind {
     Slice,
     Reader,
 }
 
-// The records of two tables in text, and how many bytes are skipped under the first.
-#[derive(Clone, Copy)]
-struct Layers<'a> {
-    first: &'a str,
-    second: &'a str,
+// Two tables, and how many bytes are skipped under the first before a call is made under both.
+#[derive(Clone, Copy, PartialEq, Eq, Debug)]
+struct Layers<T> {
+    first: T,
+    second: T,
     skipped: u64,
 }
 
 // A reader call with its argument.
-#[derive(Clone, Copy)]
+#[derive(Clone, Copy, PartialEq, Eq, Debug)]
 enum ReadCall {
     U8,
     U16,
@@ -79,23 +79,15 @@ enum ReadCall {
     Split(u64),
 }
 
-// Two tables, and how many bytes are skipped under the first before a call is made under both.
-#[derive(Clone, Copy)]
-struct Tables<'a> {
-    first: &'a [Relocation],
-    second: &'a [Relocation],
-    skipped: u64,
-}
-
 // What a call answered, and how many bytes it left.
-#[derive(Clone, Copy)]
+#[derive(Clone, Copy, PartialEq, Eq, Debug)]
 struct Reading {
     answer: Result<Values, Error>,
     left: u64,
 }
 
 // What a call answers: nothing, a number, or two.
-#[derive(Clone, Copy)]
+#[derive(Clone, Copy, PartialEq, Eq, Debug)]
 enum Values {
     Nothing,
     One(u64),
@@ -165,7 +157,7 @@ impl<'a> Section<'a> {
     fn read(
         &self,
         bytes: &[u8],
-        tables: Option<Tables<'_>>,
+        tables: Option<Layers<&[Relocation]>>,
         call: ReadCall,
     ) -> Result<Reading, Error> {
         match self.kind {
@@ -183,6 +175,7 @@ fn call_of(text: &str) -> Option<ReadCall> {
     }
 }
 
+// No FromStr, here and below: there is no error to name.
 // The call of a name that takes no argument.
 fn call_without(name: &str) -> Option<ReadCall> {
     Some(match name {
@@ -245,9 +238,9 @@ fn answer(heap: Global, line: &str) -> Result<String, AllocError> {
             let bytes = decode(heap, section.digits.as_bytes())?;
             let first = records_of(heap, layers.first)?;
             let second = records_of(heap, layers.second)?;
-            let tables = Tables {
-                first: &first,
-                second: &second,
+            let tables = Layers {
+                first: first.as_slice(),
+                second: second.as_slice(),
                 skipped: layers.skipped,
             };
             reading_text(heap, section.read(&bytes, Some(tables), call))
@@ -281,7 +274,7 @@ fn record_of(text: &str) -> Option<Relocation> {
 // Makes a call on a reader, or under two tables behind the bytes that are skipped under the first.
 fn read_under<R: AddressReader>(
     reader: R,
-    tables: Option<Tables<'_>>,
+    tables: Option<Layers<&[Relocation]>>,
     call: ReadCall,
 ) -> Result<Reading, Error> {
     let Some(tables) = tables else {
@@ -304,6 +297,7 @@ fn read<R: AddressReader>(mut reader: R, call: ReadCall) -> Reading {
     }
 }
 
+// A match and no closures: a call is a value, read from a line.
 // Makes a call on a reader.
 fn perform<R: AddressReader>(reader: &mut R, call: ReadCall) -> Result<Values, Error> {
     Ok(match call {

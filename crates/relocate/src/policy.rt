@@ -33,6 +33,7 @@ pub enum RelocationKind {
     Add,
     /// Puts the amount in the value's place.
     Replace,
+    // no TryFrom: a record of another kind is refused where it is used, not where it is read
     /// Any other kind, which is refused.
     Unknown,
 }

@@ -7,6 +7,7 @@ ghost use Rattle.relocate.specs.Relocating.{layered, and_then};
 
 use readers::{AddressReader, Error, Format, Reader, ReaderOffset, ReaderOffsetId, RunTimeEndian};
 
+// An offset and a value each time, as in gimli.
 /// What becomes of an address or an offset that was read at an offset of a section.
 pub trait Relocate: Copy {
     // from an offset and the address there to an address or a fault
@@ -132,7 +133,7 @@ impl<R: Reader, T: Relocate> Reader for RelocateReader<R, T> {
     }
 }
 
-// Three reads that differ in the call below: one over that call, a closure, would need a contract on the closure's.
+// Three reads that differ in the call below: one function over that call, as a closure, would need a contract of the closure.
 impl<R: AddressReader, T: Relocate> AddressReader for RelocateReader<R, T> {
     #[tactic(auto, using(crate::proofs::Layers::address_layered))]
     fn read_address(&mut self, address_size: u8) -> Result<u64, Error> {

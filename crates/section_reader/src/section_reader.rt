@@ -26,7 +26,7 @@ pub struct SectionReader<'a, O: ReaderOffset> {
     ghost told: { len < O.ReaderOffset.limit },
 }
 
-// By hand, since none is derived for a struct with a ghost field.
+// By hand: over a ghost field none is derived where the struct has a type parameter.
 impl<O: ReaderOffset> Clone for SectionReader<'_, O> {
     ghost is_clone = { λ x y. y ≡ x };
 
@@ -52,6 +52,7 @@ impl<'a, O: ReaderOffset> SectionReader<'a, O> {
         ensures whole { IfOk result (λ s. (s.section.now ≡ section.now) × (s.first ≡ 0) × (s.len ≡ length section.now)) }
     {
         let len = section.len();
+        // one refusal for both, in place of a `map_err` and an `ok_or` with the same fault
         if O::from_u64(len as u64).is_err() || len as u64 > u64::MAX - base {
             return Err(Error::SectionTooLong);
         }
@@ -166,6 +167,7 @@ impl<O: ReaderOffset> Reader for SectionReader<'_, O> {
     }
 
     fn find(&self, byte: u8) -> Result<O, Error> {
+        // a match: `ok_or` would ask for the fault's id before it is known that there is a fault
         match self.slice().iter().position(|other| *other == byte) {
             Some(place) => O::from_u64(place as u64),
             None => Err(Error::UnexpectedEof(self.offset_id())),

@@ -68,6 +68,7 @@ fn lookup_in_set<R: AddressReader>(
         match entries.next() {
             Ok(Some(entry)) => {
                 let range = entry.range();
+                // as the rule says it; std's range of the two would have to be made for this test
                 if range.begin <= address && address < range.end {
                     return Some(entry);
                 }
