@@ -314,7 +314,8 @@ impl<R: AddressReader> ArangeEntryIter<R> {
     }
 }
 
-// A read's outcome, where a fault leaves no bytes.
+// A read's outcome, where a fault leaves no bytes. Tried with `inspect_err`: behind its closure it was not proved that the
+// loop of next_raw ends.
 fn or_empty<R: Reader, T>(input: &mut R, outcome: Result<T, Error>) -> Result<T, Error>
     ensures same { result ≡ outcome }
     ensures left { MatchResult result (λ _. R.Reader.means input.new ≡ R.Reader.means input.old) (λ _. R.Reader.means input.new ≡ emptied (R.Reader.means input.old)) }
