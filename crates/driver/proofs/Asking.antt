@@ -1,11 +1,9 @@
 -- Laws of what an input asks for: records one by one, and commands one by one.
 use Rattle.std.proofs.Common.{◌≡◌, ℕ, suc, ◌<◌, Bool, false, List, [], ◌∷◌, ◌++◌, map, length, Ok, Err, sym, ap, ◌∙◌, subst, append_assoc, append-nil}
 use mathlib.Core.List.{map-append}
-use Rattle.readers.specs.declared.error.Error.{Error}
-use Rattle.readers.specs.Outcome.{fault}
 use Rattle.readers.specs.Reading.{Meaning, Step, then, gives}
-use Rattle.readers.specs.Links.{Did, fault_is}
-use Rattle.readers.proofs.Steps.{ends, then_did, then_refused, then_then, then_same}
+use Rattle.readers.specs.Links.{Did}
+use Rattle.readers.proofs.Steps.{then_did, then_then, then_same}
 use Rattle.relocate.specs.declared.policy.Relocation.{Relocation}
 use Rattle.calls.specs.declared.calls.Call.{Call}
 use Rattle.calls.specs.Law as Law
@@ -67,10 +65,3 @@ many_more whole n k rs ss r m a e f d so =
     ∙ ap (λ (t : Step (List Relocation)). then t (behind rs)) (sym (then_did (λ x z. then (some_records k z) (joined x)) d))
     ∙ ap (λ (j : ℕ). then (some_records j m) (behind rs)) (sym e)
     ∙ so
-
-pub many_refused : (whole : Step (List Relocation)) (n k : ℕ) (rs : List Relocation) (e : Error) (m a : Meaning)
-    → n ≡ suc k → Did (λ (x : Relocation). x) (Err e) a (record_step m) → ReadSoMany whole n rs m → whole ≡ ends (fault (fault_is e)) a
-many_refused whole n k rs e m a f d so =
-    sym so
-    ∙ ap (λ (j : ℕ). then (some_records j m) (behind rs)) f
-    ∙ ap (λ (t : Step (List Relocation)). then t (behind rs)) (then_refused (λ x z. then (some_records k z) (joined x)) d)

@@ -29,6 +29,7 @@ impl<'a> Head<'a> {
         SectionReader::new(self.section, 0, self.endian)
     }
 
+    // The clause is the one that RelocateReader::new makes, at the table of the records.
     /// A reader of the section, relocated by the records.
     pub fn relocated<R: Reader>(&self, section: R) -> RelocateReader<R, RelocationTable<'_>>
         ensures { layered R.Offset.ReaderOffset.limit (by_table result.relocate.records.now) (by_table result.relocate.records.now) result.start (R.Reader.means result.reader) ≡ layered R.Offset.ReaderOffset.limit (by_table (vec_items self.now.records)) (by_table (vec_items self.now.records)) (R.Reader.means section).id (R.Reader.means section) }

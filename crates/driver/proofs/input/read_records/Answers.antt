@@ -1,8 +1,8 @@
 -- The records one by one: one more, and a record that is cut short.
-use Rattle.std.proofs.Common.{rules, ◌≡◌, suc, ◌+◌, ◌-◌, vec_items, arith}
+use Rattle.std.proofs.Common.{◌≡◌, suc, ◌+◌, ◌-◌, vec_items, arith}
 use Rattle.section_reader.specs.Means.{section_means}
 use Rattle.driver.specs.Input.{some_records}
-use Rattle.driver.proofs.Asking.{many_more, many_refused}
+use Rattle.driver.proofs.Asking.{many_more}
 use Rattle.driver.proofs.input.read_records.Goals as goal
 
 pub loop-preserved : goal.loop-preserved
@@ -13,15 +13,3 @@ loop-preserved c =
     many_more (some_records n (section_means c.read_u16.new.reader)) (n - i) (n - (i + 1)) (vec_items c.loop.records) (vec_items c.push.new.self)
     c.in_ok-read_record.field-0 (section_means c.loop.input) (section_means c.read_record.new.input) less
     c.in_ok-push.ensures.items c.in_ok-read_record.ensures c.loop.invariant
-
-pub returns-in_err-read_record : goal.returns-in_err-read_record
-returns-in_err-read_record c =
-    let n = c.in_ok-count.count in
-    let i = c.loop.counter in
-    let less : n - i ≡ suc (n - (i + 1)) = omega arith in
-    let a = section_means c.read_u16.new.reader in
-    let e =
-    many_refused (some_records n a) (n - i) (n - (i + 1)) (vec_items c.loop.records) c.in_err-read_record.field-0.0 (section_means c.loop.input)
-    (section_means c.read_record.new.input) less c.in_err-read_record.ensures c.loop.invariant
-    in
-    search rules
