@@ -67,7 +67,7 @@ fn walk_section<R: AddressReader>(
     ensures { OnOk result (Adds (string_bytes out.old) (string_bytes out.new) (Walked R.Offset.ReaderOffset.limit (R.Reader.means section) (map call_is calls.now))) }
 {
     let answers = answer_calls(heap, section, calls)?;
-    // a loop: each line may find no memory
+    // a loop: `try_for_each` would hold the same two steps and their `?` in a closure
     for answer in &answers {
         let line = line(heap, answer)?;
         out.push_str(line.as_str())?;

@@ -34,6 +34,7 @@ pub fn encode(heap: Global, bytes: &[u8]) -> Result<String, AllocError>
     ensures { IfOk result (λ s. string_bytes s ≡ encoded bytes.now) }
 {
     let mut text = String::new(heap);
+    // a loop: `try_for_each` would hold the same step and its `?` in a closure
     for byte in bytes {
         write!(text, "{byte:02x}")?;
     }

@@ -262,6 +262,7 @@ fn records_of(heap: Global, text: &str) -> Result<Vec<Relocation>, AllocError> {
     text.split(';').filter_map(record_of).collect(heap)
 }
 
+// No FromStr: Relocation is another crate's, and there is no error to name.
 fn record_of(text: &str) -> Option<Relocation> {
     let mut numbers = text.split(',');
     Some(Relocation {

@@ -1,4 +1,4 @@
--- The records one by one: one more, and a record that is cut short.
+-- The records one by one: one more.
 use Rattle.std.proofs.Common.{◌≡◌, suc, ◌+◌, ◌-◌, vec_items, arith}
 use Rattle.section_reader.specs.Means.{section_means}
 use Rattle.driver.specs.Input.{some_records}
