@@ -1,10 +1,12 @@
 #!/usr/bin/env python3
-"""Writes planted/bugs.txt: one wrong operator, constant, order or dropped statement at a time, all over the code.
+"""Drafts planted/bugs.txt: one wrong operator, constant, order or dropped statement at a time, all over the code.
 
-    planted/mutate.py [MOST] >planted/bugs.txt
+    planted/mutate.py [MOST] >DRAFT
 
-Of each function at most MOST bugs are taken (4 if not given), evenly over its body. Clauses, imports, tests and programs'
-`main` are left alone. A bug is told with the lines around it, so that it stands once in its file.
+Of each function at most MOST bugs are taken (4 if not given), evenly over its body. Clauses, comments, imports, tests,
+programs' `main` and crates that promise nothing are left alone. A bug is told with the lines around it, so that it
+stands once in its file. It is a draft: some of it does not compile or changes nothing, and functions of one word or one
+call have nothing to swap. planted/bugs.txt is the draft put right by hand, with bugs for those too.
 """
 import glob
 import os
@@ -50,6 +52,8 @@ def bodies(text):
 
 
 def changes(line):
+    if re.match(r"\s*(//|prove!)", line):
+        return
     for old, new in SWAPS:
         changed = re.sub(old, new, line, count=1)
         if changed != line:
@@ -69,6 +73,8 @@ def main(most):
         if os.path.exists("crates/%s/src/main.rt" % crate):
             continue
         text = open(path).read()
+        if not re.search(r"^\s*(ensures|ghost \w+ =)", text, re.M):
+            continue
         lines = text.split("\n")
         for name, first, last in bodies(text):
             found = [(at, new) for at in range(first, last) for new in changes(lines[at])]

@@ -41,10 +41,9 @@ def edits(root):
         yield path.split("/")[-3], lines["file"], lines["old"], lines["new"]
 
 
-def verdict(output):
-    # the crates below come first, and each has such a line
-    verdicts = re.findall(r"^logic=(\S+)", output, re.M)
-    if verdicts and verdicts[-1] == "proved":
+def verdict(status, output):
+    # not by a line `logic=proved`: the crates below come first, and each has one
+    if status == 0:
         return "PROVED", ""
     facts = re.findall(r"(?:^|\s)(?:\./)?(src/\S+): (?:note: )?it is not proved that (.*)", output, re.M)
     if re.search(r"error\[", output) and not facts:
@@ -52,7 +51,8 @@ def verdict(output):
     if facts:
         return "refused", "%s: %s" % (facts[0][0], facts[0][1][:110])
     wrong = re.findall(r"^\S*?/(proofs/\S+): error: (.*)", output, re.M)
-    names = [w for w in wrong if "that can be named" in w[1] or "has no field" in w[1] or "not in scope" in w[1]]
+    missing = r"that can be named|has no field|not in scope|has no `|was not admitted"
+    names = [w for w in wrong if re.search(missing, w[1])]
     if wrong and len(names) < len(wrong):
         first = next(w for w in wrong if w not in names)
         return "answer", "%s: %s" % (first[0], first[1][:110])
@@ -77,7 +77,7 @@ def main(arguments):
             open(path, "w").write(text.replace(old, new))
             folder = os.path.join(scratch, "crates", crate)
             run = subprocess.run(["rt", "check", "--jobs", "1"], cwd=folder, capture_output=True, text=True)
-            result, note = verdict(run.stdout + run.stderr)
+            result, note = verdict(run.returncode, run.stdout + run.stderr)
             open(path, "w").write(text)
         counts[result] = counts.get(result, 0) + 1
         shown = [" / ".join(part.strip() for part in text.split("\n"))[:90] for text in (old, new)]
