@@ -37,7 +37,7 @@ pub trait ReaderOffset: Copy {
         ensures { result ≡ number self };
 }
 
-// An impl for each type, as in gimli: each has its own limit, and std has no From between usize and u32 or u64.
+// An impl for each type, as in gimli: each has its own limit, and std has a From for some of the casts only.
 impl ReaderOffset for u32 {
     ghost number = { λ x. x };
 
