@@ -1,0 +1,18 @@
+-- Numbers in the bytes of a file.
+use Rattle.std.specs.Prelude.{ℕ, Bool, List}
+use Rattle.readers.specs.Reading.{spelt}
+use Rattle.readers.specs.Sections.{part}
+
+-- bytes, whether the highest byte of a number comes first, and how many bytes a word has: an address, an offset or a size
+pub record Words : Type 0 where
+  pub bytes : List ℕ
+  pub big : Bool
+  pub word : ℕ
+
+-- the number of n bytes at a place
+abbrev pub number : Words → ℕ → ℕ → ℕ
+number w at n = spelt w.big (part at n w.bytes)
+
+-- the word at a place
+abbrev pub word_at : Words → ℕ → ℕ
+word_at w at = number w at w.word

@@ -1,0 +1,10 @@
+// Reads ELF files: the header, the table of sections, their names and bytes, and symbols.
+#![tactic(auto)]
+
+mod error;
+mod file;
+mod words;
+
+pub use error::ElfError;
+pub use file::{ElfFile, FileKind};
+pub use words::Class;
