@@ -4,6 +4,8 @@ use Rattle.std.specs.List.{starts_with}
 use Rattle.elf.specs.declared.error.ElfError.{ElfError}
 use Rattle.elf.specs.declared.error.ElfError.TheVariants.{NotElf, UnknownClass, UnknownByteOrder, HeaderCutOff, SectionEntrySize, SectionTableCutOff}
 use Rattle.elf.specs.Words.{Words, number, word_at}
+use Rattle.elf.specs.declared.section.Section.{Section}
+use Rattle.elf.specs.Sections.{section_size, section_of}
 
 -- One result after another, up to the first error.
 abbrev pub and_then : {A B : Type 0} → Result A ElfError → (A → Result B ElfError) → Result B ElfError
@@ -33,3 +35,69 @@ identified bytes =
     (and_then (word_of_class (slice_index bytes 4)) (λ w.
     and_then (big_of_order (slice_index bytes 5)) (λ b.
     Ok (record { bytes = bytes; big = b; word = w }))))
+
+-- what the header says: the file's kind and machine, where the section table is, the size of its entries, their number,
+-- and the index of the section that has the names of sections
+pub record Header : Type 0 where
+  pub kind : ℕ
+  pub machine : ℕ
+  pub table : ℕ
+  pub entry_size : ℕ
+  pub count : ℕ
+  pub names : ℕ
+
+abbrev pub header : Words → Header
+header w =
+    record {
+      kind = number w 16 2;
+      machine = number w 18 2;
+      table = word_at w (24 + 2 * w.word);
+      entry_size = number w (34 + 3 * w.word) 2;
+      count = number w (36 + 3 * w.word) 2;
+      names = number w (38 + 3 * w.word) 2;
+    }
+
+-- a file: its bytes, kind and machine, and its section table: where it starts, how many sections it has, and which of
+-- them has the names of sections
+pub record File : Type 0 where
+  pub words : Words
+  pub kind : ℕ
+  pub machine : ℕ
+  pub table : ℕ
+  pub count : ℕ
+  pub names : ℕ
+
+abbrev pub file : Words → Header → ℕ → ℕ → ℕ → File
+file w h t c n = record { words = w; kind = h.kind; machine = h.machine; table = t; count = c; names = n }
+
+-- whether n entries from a place on lie within the bytes
+abbrev pub has_entries : Words → ℕ → ℕ → Bool
+has_entries w at n = nat_le (at + n * section_size w.word) (length w.bytes)
+
+-- A number of sections that is too large for the header is the size in the entry of section 0; an index of the names
+-- that is too large is the link there.
+abbrev pub count_of : Header → Section → ℕ
+count_of h first = cond (h.count == 0) first.size h.count
+
+abbrev pub names_of : Header → Section → ℕ
+names_of h first = cond (h.names == 0xffff) first.link h.names
+
+-- the file with its section table
+abbrev pub tabled : Words → Header → Result File ElfError
+tabled w h =
+    only_if (h.entry_size == section_size w.word) (SectionEntrySize h.entry_size)
+    (only_if (has_entries w h.table 1) SectionTableCutOff
+    (let first = section_of w 0 h.table in
+    only_if (has_entries w h.table (count_of h first)) SectionTableCutOff
+    (Ok (file w h h.table (count_of h first) (names_of h first)))))
+
+-- the header takes 40 bytes and three words
+abbrev pub headed : Words → Result Header ElfError
+headed w = only_if (nat_le (40 + 3 * w.word) (length w.bytes)) HeaderCutOff (Ok (header w))
+
+-- what bytes say of a file; where the section table would be at 0 there are no sections
+abbrev pub parsed : List ℕ → Result File ElfError
+parsed bytes =
+    and_then (identified bytes) (λ w.
+    and_then (headed w) (λ h.
+    cond (h.table == 0) (Ok (file w h 0 0 0)) (tabled w h)))

@@ -1,13 +1,16 @@
 // An ELF file: what its header says, and where its section table is.
-ghost use Rattle.std.specs.Prelude.{◌≡◌};
-ghost use Rattle.elf.specs.Files.{identified};
-ghost use Rattle.elf.specs.Links.{result_is, words_is};
+ghost use Rattle.std.specs.Prelude.{◌≡◌, ◌+◌, ◌*◌, ◌≤◌, length};
+ghost use Rattle.elf.specs.Sections.{section_size};
+ghost use Rattle.elf.specs.Files.{has_entries as entries_fit};
+ghost use Rattle.elf.specs.Links.{word_of, words_is, result_is};
 
 use crate::error::ElfError;
-use crate::words::{Class, Words};
-use readers::RunTimeEndian;
+use crate::header::{Header, identify, read_header};
+use crate::section::{read_section, section_size_of};
+use crate::words::Words;
 
-const MAGIC: &[u8] = b"\x7fELF";
+// stands for an index of the names that the header has no room for
+const NAMES_BEYOND: u16 = 0xffff;
 
 /// What a file is for.
 #[derive(Clone, Copy, PartialEq, Eq, Debug)]
@@ -22,28 +25,74 @@ pub enum FileKind {
 #[derive(Clone, Copy)]
 pub struct ElfFile<'a> {
     words: Words<'a>,
+    kind: u16,
+    machine: u16,
+    // the section table: where it starts, how many sections it has, and which of them has the names of sections
+    table: usize,
+    count: usize,
+    names: u32,
+    ghost within: { table + count * section_size (word_of words.class) ≤ length words.bytes.now },
 }
 
-// the first bytes, which say how the others are read
-fn identify(bytes: &[u8]) -> Result<Words<'_>, ElfError>
-    ensures { result_is words_is result ≡ identified bytes.now }
-{
-    if bytes.len() < 16 || !bytes.starts_with(MAGIC) {
-        return Err(ElfError::NotElf);
+impl<'a> ElfFile<'a> {
+    ghost use Rattle.elf.specs.Files.{parsed, tabled};
+    ghost use Rattle.elf.specs.Links.{header_is};
+    ghost use Rattle.elf.specs.FileLinks.{file_is};
+
+    /// Reads the header of a file, and finds its section table.
+    pub fn parse(bytes: &'a [u8]) -> Result<ElfFile<'a>, ElfError>
+        ensures { result_is file_is result ≡ parsed bytes.now }
+    {
+        let words = identify(bytes)?;
+        let header = read_header(&words)?;
+        if header.table == 0 {
+            return Ok(ElfFile {
+                words,
+                kind: header.kind,
+                machine: header.machine,
+                table: 0,
+                count: 0,
+                names: 0,
+            });
+        }
+        ElfFile::with_table(words, header)
     }
-    let class = match bytes[4] {
-        1 => Class::Elf32,
-        2 => Class::Elf64,
-        other => return Err(ElfError::UnknownClass(other)),
-    };
-    let endian = match bytes[5] {
-        1 => RunTimeEndian::Little,
-        2 => RunTimeEndian::Big,
-        other => return Err(ElfError::UnknownByteOrder(other)),
-    };
-    Ok(Words {
-        bytes,
-        endian,
-        class,
-    })
+
+    // the file with the section table that its header tells
+    fn with_table(words: Words<'a>, header: Header) -> Result<ElfFile<'a>, ElfError>
+        ensures { result_is file_is result ≡ tabled (words_is words.entry) (header_is header) }
+    {
+        let size = section_size_of(words.class);
+        if header.entry_size as usize != size {
+            return Err(ElfError::SectionEntrySize(header.entry_size));
+        }
+        if !has_entries(&words, header.table, 1) {
+            return Err(ElfError::SectionTableCutOff);
+        }
+        let table = header.table as usize;
+        let first = read_section(&words, 0, table);
+        let count = if header.count == 0 { first.size } else { header.count as u64 };
+        let names = if header.names == NAMES_BEYOND { first.link } else { header.names as u32 };
+        if !has_entries(&words, header.table, count) {
+            return Err(ElfError::SectionTableCutOff);
+        }
+        Ok(ElfFile {
+            words,
+            kind: header.kind,
+            machine: header.machine,
+            table,
+            count: count as usize,
+            names,
+        })
+    }
 }
+
+// whether as many entries of sections from a place on lie within the bytes
+fn has_entries(words: &Words, at: u64, count: u64) -> bool
+    ensures { result ≡ entries_fit (words_is words.now) at count }
+{
+    let size = section_size_of(words.class) as u64;
+    let end = count.checked_mul(size).and_then(|size| at.checked_add(size));
+    end.is_some_and(|end| end <= words.bytes.len() as u64)
+}
+

@@ -3,8 +3,11 @@
 
 mod error;
 mod file;
+mod header;
+mod section;
 mod words;
 
 pub use error::ElfError;
 pub use file::{ElfFile, FileKind};
+pub use section::Section;
 pub use words::Class;
