@@ -2,7 +2,8 @@
 use Rattle.std.specs.Prelude.{ℕ, ◌+◌, ◌*◌, Bool, true, false, cond, ◌&&◌, List, [], ◌∷◌, length, Ok, Err, Result, ◌==◌, nat_le, nat_lt, nat_eq, slice_index}
 use Rattle.std.specs.List.{starts_with}
 use Rattle.elf.specs.declared.error.ElfError.{ElfError}
-use Rattle.elf.specs.declared.error.ElfError.TheVariants.{NotElf, UnknownClass, UnknownByteOrder, HeaderCutOff, SectionEntrySize, SectionTableCutOff}
+use Rattle.elf.specs.declared.error.ElfError.TheVariants.{NotElf, UnknownClass, UnknownByteOrder, HeaderCutOff, SectionEntrySize, SectionTableCutOff, NoSection, NoSectionNames, NoBytes, SectionCutOff}
+use Rattle.readers.specs.Sections.{part}
 use Rattle.elf.specs.Words.{Words, number, word_at}
 use Rattle.elf.specs.declared.section.Section.{Section}
 use Rattle.elf.specs.Sections.{section_size, section_of}
@@ -101,3 +102,21 @@ parsed bytes =
     and_then (identified bytes) (λ w.
     and_then (headed w) (λ h.
     cond (h.table == 0) (Ok (file w h 0 0 0)) (tabled w h)))
+
+-- the section of an index
+abbrev pub section_in : File → ℕ → Section
+section_in f i = section_of f.words i (f.table + i * section_size f.words.word)
+
+abbrev pub section_or : File → ℕ → Result Section ElfError
+section_or f i = only_if (nat_lt i f.count) (NoSection i) (Ok (section_in f i))
+
+-- the bytes of a section, where it has bytes (its kind is not 8) and they all lie within the file
+abbrev pub data_of : File → Section → Result (List ℕ) ElfError
+data_of f s =
+    cond (s.kind == 8) (Err (NoBytes s.index))
+    (only_if (nat_le (s.offset + s.size) (length f.words.bytes)) (SectionCutOff s.index)
+    (Ok (part s.offset s.size f.words.bytes)))
+
+-- the table of section names; index 0 says that there is none
+abbrev pub names_in : File → Result (List ℕ) ElfError
+names_in f = cond (f.names == 0) (Err NoSectionNames) (and_then (section_or f f.names) (data_of f))

@@ -1,13 +1,17 @@
 // An ELF file: what its header says, and where its section table is.
-ghost use Rattle.std.specs.Prelude.{◌≡◌, ◌+◌, ◌*◌, ◌≤◌, length};
+ghost use Rattle.std.specs.Prelude.{◌≡◌, ◌+◌, ◌*◌, ◌<◌, ◌≤◌, length};
 ghost use Rattle.elf.specs.Sections.{section_size};
 ghost use Rattle.elf.specs.Files.{has_entries as entries_fit};
 ghost use Rattle.elf.specs.Links.{word_of, words_is, result_is};
 
 use crate::error::ElfError;
 use crate::header::{Header, identify, read_header};
-use crate::section::{read_section, section_size_of};
-use crate::words::Words;
+use crate::section::{Section, read_section, section_size_of};
+use crate::words::{Class, Words};
+use readers::RunTimeEndian;
+
+// the kind of a section that takes no bytes in the file
+const NO_BYTES: u32 = 8;
 
 // stands for an index of the names that the header has no room for
 const NAMES_BEYOND: u16 = 0xffff;
@@ -35,9 +39,10 @@ pub struct ElfFile<'a> {
 }
 
 impl<'a> ElfFile<'a> {
-    ghost use Rattle.elf.specs.Files.{parsed, tabled};
+    ghost use Rattle.readers.specs.Links.{is_big};
+    ghost use Rattle.elf.specs.Files.{parsed, tabled, section_in, section_or, data_of, names_in};
     ghost use Rattle.elf.specs.Links.{header_is};
-    ghost use Rattle.elf.specs.FileLinks.{file_is};
+    ghost use Rattle.elf.specs.FileLinks.{file_is, kind_for};
 
     /// Reads the header of a file, and finds its section table.
     pub fn parse(bytes: &'a [u8]) -> Result<ElfFile<'a>, ElfError>
@@ -84,6 +89,88 @@ impl<'a> ElfFile<'a> {
             count: count as usize,
             names,
         })
+    }
+
+    pub fn class(&self) -> Class
+        ensures { word_of result ≡ (file_is self.now).words.word }
+    {
+        self.words.class
+    }
+
+    pub fn endian(&self) -> RunTimeEndian
+        ensures { is_big result ≡ (file_is self.now).words.big }
+    {
+        self.words.endian
+    }
+
+    pub fn kind(&self) -> FileKind
+        ensures { result ≡ kind_for (file_is self.now).kind }
+    {
+        match self.kind {
+            1 => FileKind::Relocatable,
+            2 => FileKind::Executable,
+            3 => FileKind::Shared,
+            other => FileKind::Other(other),
+        }
+    }
+
+    /// The number of the machine that the file is for.
+    pub fn machine(&self) -> u16
+        ensures { result ≡ (file_is self.now).machine }
+    {
+        self.machine
+    }
+
+    pub fn section_count(&self) -> u64
+        ensures { result ≡ (file_is self.now).count }
+    {
+        self.count as u64
+    }
+
+    // the section of an index below the number of sections
+    #[tactic(auto, using(crate::proofs::Entries::entry_within))]
+    pub(crate) fn section_at(&self, index: usize) -> Section
+        requires { index < self.now.count }
+        ensures { result ≡ section_in (file_is self.now) index }
+    {
+        let at = self.table + index * section_size_of(self.words.class);
+        read_section(&self.words, index, at)
+    }
+
+    pub fn section(&self, index: u64) -> Result<Section, ElfError>
+        ensures { result ≡ section_or (file_is self.now) index }
+    {
+        if index < self.count as u64 {
+            Ok(self.section_at(index as usize))
+        } else {
+            Err(ElfError::NoSection(index))
+        }
+    }
+
+    /// The bytes of a section.
+    pub fn data(&self, section: &Section) -> Result<&'a [u8], ElfError>
+        ensures { result_is (λ x. x.now) result ≡ data_of (file_is self.now) section.now }
+    {
+        if section.kind == NO_BYTES {
+            return Err(ElfError::NoBytes(section.index));
+        }
+        let bytes = self.words.bytes;
+        let end = section.offset.checked_add(section.size).filter(|end| *end <= bytes.len() as u64);
+        match end {
+            Some(end) => Ok(&bytes[section.offset as usize..end as usize]),
+            None => Err(ElfError::SectionCutOff(section.index)),
+        }
+    }
+
+    // the table of section names
+    fn names(&self) -> Result<&'a [u8], ElfError>
+        ensures { result_is (λ x. x.now) result ≡ names_in (file_is self.now) }
+    {
+        if self.names == 0 {
+            return Err(ElfError::NoSectionNames);
+        }
+        let section = self.section(self.names as u64)?;
+        self.data(&section)
     }
 }
 

@@ -1,9 +1,7 @@
 // Numbers in the bytes of a file: of fixed widths, and words, whose width the file's class tells.
-ghost use Rattle.std.specs.Prelude.{◌≡◌, ◌+◌, ◌≤◌, length, drop};
+ghost use Rattle.std.specs.Prelude.{◌≡◌, ◌+◌, ◌^◌, ◌<◌, ◌≤◌, length, drop};
 ghost use Rattle.readers.specs.Reading.{plain};
 ghost use Rattle.readers.specs.Links.{is_big};
-ghost use Rattle.elf.specs.Words.{number, word_at};
-ghost use Rattle.elf.specs.Links.{word_of, words_is};
 
 use numbers::{read_u16, read_u32, read_u64};
 use readers::RunTimeEndian;
@@ -17,6 +15,8 @@ pub enum Class {
 }
 
 impl Class {
+    ghost use Rattle.elf.specs.Links.{word_of};
+
     /// How many bytes an address or an offset takes.
     pub fn word_size(self) -> usize
         ensures { result ≡ word_of self }
@@ -34,10 +34,14 @@ pub struct Words<'a> {
     pub bytes: &'a [u8],
     pub endian: RunTimeEndian,
     pub class: Class,
+    // so that each place in the bytes is a number of the code
+    ghost short: { length bytes.now < 2 ^ 64 },
 }
 
 impl<'a> Words<'a> {
     ghost use Rattle.section_reader.specs.Means.{section_means};
+    ghost use Rattle.elf.specs.Words.{number, word_at};
+    ghost use Rattle.elf.specs.Links.{word_of, words_is};
 
     // a reader of the bytes from a place on
     fn from(&self, at: usize) -> EndianSlice<'a>
