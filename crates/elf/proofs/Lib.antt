@@ -1,2 +1,3 @@
 pub mod Opening
 pub mod Entries
+pub mod Naming

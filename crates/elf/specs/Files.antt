@@ -1,5 +1,5 @@
 -- What the bytes of an ELF file say of it, or why they say nothing.
-use Rattle.std.specs.Prelude.{ℕ, ◌+◌, ◌*◌, Bool, true, false, cond, ◌&&◌, List, [], ◌∷◌, length, Ok, Err, Result, ◌==◌, nat_le, nat_lt, nat_eq, slice_index}
+use Rattle.std.specs.Prelude.{ℕ, zero, suc, ◌+◌, ◌*◌, Bool, true, false, cond, ◌&&◌, List, [], ◌∷◌, length, Ok, Err, Result, ◌==◌, nat_le, nat_lt, nat_eq, slice_index}
 use Rattle.std.specs.List.{starts_with}
 use Rattle.elf.specs.declared.error.ElfError.{ElfError}
 use Rattle.elf.specs.declared.error.ElfError.TheVariants.{NotElf, UnknownClass, UnknownByteOrder, HeaderCutOff, SectionEntrySize, SectionTableCutOff, NoSection, NoSectionNames, NoBytes, SectionCutOff}
@@ -120,3 +120,11 @@ data_of f s =
 -- the table of section names; index 0 says that there is none
 abbrev pub names_in : File → Result (List ℕ) ElfError
 names_in f = cond (f.names == 0) (Err NoSectionNames) (and_then (section_or f f.names) (data_of f))
+
+-- as many sections as are told, from an index on
+abbrev pub sections_from : File → ℕ → ℕ → List Section
+sections_from f i zero = []
+sections_from f i (suc n) = section_in f i ∷ sections_from f (i + 1) n
+
+abbrev pub all_sections : File → List Section
+all_sections f = sections_from f 0 f.count

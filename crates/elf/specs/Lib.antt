@@ -4,3 +4,5 @@ pub mod Sections
 pub mod Files
 pub mod Links
 pub mod FileLinks
+pub mod Names
+pub mod SectionLinks

@@ -33,7 +33,7 @@ pub struct ElfFile<'a> {
     machine: u16,
     // the section table: where it starts, how many sections it has, and which of them has the names of sections
     table: usize,
-    count: usize,
+    pub(crate) count: usize,
     names: u32,
     ghost within: { table + count * section_size (word_of words.class) ≤ length words.bytes.now },
 }
@@ -163,7 +163,7 @@ impl<'a> ElfFile<'a> {
     }
 
     // the table of section names
-    fn names(&self) -> Result<&'a [u8], ElfError>
+    pub(crate) fn names(&self) -> Result<&'a [u8], ElfError>
         ensures { result_is (λ x. x.now) result ≡ names_in (file_is self.now) }
     {
         if self.names == 0 {

@@ -5,9 +5,11 @@ mod error;
 mod file;
 mod header;
 mod section;
+mod sections;
 mod words;
 
 pub use error::ElfError;
 pub use file::{ElfFile, FileKind};
 pub use section::Section;
+pub use sections::Sections;
 pub use words::Class;
