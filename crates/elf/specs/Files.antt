@@ -128,3 +128,7 @@ sections_from f i (suc n) = section_in f i ∷ sections_from f (i + 1) n
 
 abbrev pub all_sections : File → List Section
 all_sections f = sections_from f 0 f.count
+
+-- the same file's numbers in other bytes
+abbrev pub words_in : File → List ℕ → Words
+words_in f bytes = record { bytes = bytes; big = f.words.big; word = f.words.word }

@@ -6,3 +6,5 @@ pub mod Links
 pub mod FileLinks
 pub mod Names
 pub mod SectionLinks
+pub mod Symbols
+pub mod SymbolLinks

@@ -9,6 +9,9 @@ pub record Words : Type 0 where
   pub big : Bool
   pub word : ℕ
 
+abbrev pub words_by : List ℕ → Bool → ℕ → Words
+words_by bs b n = record { bytes = bs; big = b; word = n }
+
 -- the number of n bytes at a place
 abbrev pub number : Words → ℕ → ℕ → ℕ
 number w at n = spelt w.big (part at n w.bytes)

@@ -50,21 +50,36 @@ impl fmt::Display for ElfError {
                 write!(f, "the ELF class {class} is unknown: it should be 1 or 2")
             }
             ElfError::UnknownByteOrder(order) => {
-                write!(f, "the ELF byte order {order} is unknown: it should be 1 or 2")
+                write!(
+                    f,
+                    "the ELF byte order {order} is unknown: it should be 1 or 2"
+                )
             }
             ElfError::HeaderCutOff => write!(f, "the file ends within its ELF header"),
             ElfError::SectionEntrySize(size) => {
-                write!(f, "entries of the section table have {size} bytes, which this ELF class has not")
+                write!(
+                    f,
+                    "entries of the section table have {size} bytes, which this ELF class has not"
+                )
             }
-            ElfError::SectionTableCutOff => write!(f, "the file ends before its section table does"),
+            ElfError::SectionTableCutOff => write!(
+                f,
+                "the file ends before its section table does"
+            ),
             ElfError::NoSection(index) => write!(f, "the file has no section {index}"),
             ElfError::NoSectionNames => write!(f, "the file has no table of section names"),
             ElfError::NameCutOff(index) => write!(f, "the name of section {index} has no end"),
             ElfError::NoBytes(index) => write!(f, "section {index} has no bytes in the file"),
-            ElfError::SectionCutOff(index) => write!(f, "the file ends before section {index} does"),
+            ElfError::SectionCutOff(index) => write!(
+                f,
+                "the file ends before section {index} does"
+            ),
             ElfError::NoSymbolTable(index) => write!(f, "section {index} is not a symbol table"),
             ElfError::SymbolEntrySize(size) => {
-                write!(f, "entries of the symbol table have {size} bytes, which this ELF class has not")
+                write!(
+                    f,
+                    "entries of the symbol table have {size} bytes, which this ELF class has not"
+                )
             }
             ElfError::NoSymbol(index) => write!(f, "the file has no symbol {index}"),
             ElfError::NoSectionOfSymbol(index) => {

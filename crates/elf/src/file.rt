@@ -40,7 +40,7 @@ pub struct ElfFile<'a> {
 
 impl<'a> ElfFile<'a> {
     ghost use Rattle.readers.specs.Links.{is_big};
-    ghost use Rattle.elf.specs.Files.{parsed, tabled, section_in, section_or, data_of, names_in};
+    ghost use Rattle.elf.specs.Files.{parsed, tabled, section_in, section_or, data_of, names_in, words_in};
     ghost use Rattle.elf.specs.Links.{header_is};
     ghost use Rattle.elf.specs.FileLinks.{file_is, kind_for};
 
@@ -76,8 +76,16 @@ impl<'a> ElfFile<'a> {
         }
         let table = header.table as usize;
         let first = read_section(&words, 0, table);
-        let count = if header.count == 0 { first.size } else { header.count as u64 };
-        let names = if header.names == NAMES_BEYOND { first.link } else { header.names as u32 };
+        let count = if header.count == 0 {
+            first.size
+        } else {
+            header.count as u64
+        };
+        let names = if header.names == NAMES_BEYOND {
+            first.link
+        } else {
+            header.names as u32
+        };
         if !has_entries(&words, header.table, count) {
             return Err(ElfError::SectionTableCutOff);
         }
@@ -155,11 +163,21 @@ impl<'a> ElfFile<'a> {
             return Err(ElfError::NoBytes(section.index));
         }
         let bytes = self.words.bytes;
-        let end = section.offset.checked_add(section.size).filter(|end| *end <= bytes.len() as u64);
+        let end = section
+            .offset
+            .checked_add(section.size)
+            .filter(|end| *end <= bytes.len() as u64);
         match end {
             Some(end) => Ok(&bytes[section.offset as usize..end as usize]),
             None => Err(ElfError::SectionCutOff(section.index)),
         }
+    }
+
+    // the same file's numbers in other bytes
+    pub(crate) fn words_in(&self, bytes: &'a [u8]) -> Words<'a>
+        ensures { words_is result ≡ words_in (file_is self.now) bytes.now }
+    {
+        Words::new(bytes, self.words.endian, self.words.class)
     }
 
     // the table of section names
@@ -179,7 +197,8 @@ fn has_entries(words: &Words, at: u64, count: u64) -> bool
     ensures { result ≡ entries_fit (words_is words.now) at count }
 {
     let size = section_size_of(words.class) as u64;
-    let end = count.checked_mul(size).and_then(|size| at.checked_add(size));
+    let end = count
+        .checked_mul(size)
+        .and_then(|size| at.checked_add(size));
     end.is_some_and(|end| end <= words.bytes.len() as u64)
 }
-

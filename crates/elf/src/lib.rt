@@ -6,10 +6,12 @@ mod file;
 mod header;
 mod section;
 mod sections;
+mod symbol;
 mod words;
 
 pub use error::ElfError;
 pub use file::{ElfFile, FileKind};
 pub use section::Section;
 pub use sections::Sections;
+pub use symbol::{Symbol, SymbolPlace, SymbolTable};
 pub use words::Class;

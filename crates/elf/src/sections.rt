@@ -59,9 +59,7 @@ impl<'a> ElfFile<'a> {
         ensures { result ≡ named (file_is self.now) name.now }
     {
         let names = self.names()?;
-        Ok(self
-            .sections()
-            .find(|section| name_stands_at(names, section.name as usize, name)))
+        Ok(self.sections().find(|section| name_stands_at(names, section.name as usize, name)))
     }
 
     /// The name of a section.

@@ -40,8 +40,20 @@ pub struct Words<'a> {
 
 impl<'a> Words<'a> {
     ghost use Rattle.section_reader.specs.Means.{section_means};
-    ghost use Rattle.elf.specs.Words.{number, word_at};
+    ghost use Rattle.elf.specs.Words.{number, word_at, words_by};
     ghost use Rattle.elf.specs.Links.{word_of, words_is};
+
+    pub fn new(bytes: &'a [u8], endian: RunTimeEndian, class: Class) -> Words<'a>
+        ensures { words_is result ≡ words_by bytes.now (is_big endian) (word_of class) }
+    {
+        // its length is known to be a number of the code once it is asked
+        let _len = bytes.len();
+        Words {
+            bytes,
+            endian,
+            class,
+        }
+    }
 
     // a reader of the bytes from a place on
     fn from(&self, at: usize) -> EndianSlice<'a>
