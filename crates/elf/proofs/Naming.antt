@@ -1,7 +1,6 @@
 -- What a search for a name found is what the definitions say.
-use Rattle.std.proofs.Common.{◌≡◌, ℕ, List, drop, take, Ok, Err, Result, Option, Some, None, ◌==◌, refl, ap, ◌∙◌}
+use Rattle.std.proofs.Common.{◌≡◌, ℕ, List, drop, take, Ok, Err, Option, Some, None, ◌==◌, refl, ap, ◌∙◌}
 use Rattle.std.specs.List.{position, find}
-use Rattle.elf.specs.declared.error.ElfError.{ElfError}
 use Rattle.elf.specs.declared.error.ElfError.TheVariants.{NameCutOff}
 use Rattle.elf.specs.declared.section.Section.{Section}
 use Rattle.elf.specs.Files.{File, and_then, names_in, all_sections}

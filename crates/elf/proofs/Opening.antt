@@ -1,5 +1,5 @@
 -- A section that was opened: what its reader means.
-use Rattle.std.proofs.Common.{◌≡◌, ℕ, ◌-◌, ◌≤◌, Bool, true, false, List, length, take, drop, Ok, Result, ap, ◌∙◌, arith, length-drop}
+use Rattle.std.proofs.Common.{◌≡◌, ℕ, ◌-◌, Bool, true, false, List, length, take, drop, Ok, Result, ap, ◌∙◌, arith, length-drop}
 use Rattle.std.proofs.lemmas.List.{take_all}
 use Rattle.readers.specs.declared.error.Error.{Error}
 use Rattle.readers.specs.Reading.{Meaning, plain}

@@ -8,3 +8,5 @@ pub mod Names
 pub mod SectionLinks
 pub mod Symbols
 pub mod SymbolLinks
+pub mod Relocations
+pub mod RelocationLinks

@@ -1,5 +1,5 @@
 -- Symbol tables, and the symbols in them.
-use Rattle.std.specs.Prelude.{ℕ, ◌+◌, ◌*◌, ◌%◌, Bool, cond, ◌&&◌, ◌||◌, List, [], length, Ok, Err, Result, Option, Some, None, ◌==◌, nat_le, find, slice_index}
+use Rattle.std.specs.Prelude.{ℕ, ◌+◌, ◌*◌, ◌%◌, Bool, cond, ◌&&◌, ◌||◌, List, [], length, Ok, Result, Option, Some, None, ◌==◌, nat_le, find, slice_index}
 use Rattle.elf.specs.declared.error.ElfError.{ElfError}
 use Rattle.elf.specs.declared.error.ElfError.TheVariants.{NoSymbolTable, SymbolEntrySize, NoSymbol, NoSectionOfSymbol}
 use Rattle.elf.specs.declared.section.Section.{Section}

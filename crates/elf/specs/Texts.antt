@@ -1,7 +1,7 @@
 -- How an error is written: one sentence.
 use Rattle.std.specs.Prelude.{ℕ, List, ◌++◌, codes, decimal}
 use Rattle.elf.specs.declared.error.ElfError.{ElfError}
-use Rattle.elf.specs.declared.error.ElfError.TheVariants.{NotElf, UnknownClass, UnknownByteOrder, HeaderCutOff, SectionEntrySize, SectionTableCutOff, NoSection, NoSectionNames, NameCutOff, NoBytes, SectionCutOff, NoSymbolTable, SymbolEntrySize, NoSymbol, NoSectionOfSymbol}
+use Rattle.elf.specs.declared.error.ElfError.TheVariants.{NotElf, UnknownClass, UnknownByteOrder, HeaderCutOff, SectionEntrySize, SectionTableCutOff, NoSection, NoSectionNames, NameCutOff, NoBytes, SectionCutOff, NoSymbolTable, SymbolEntrySize, NoSymbol, NoSectionOfSymbol, NoRelocations, RelocationEntrySize, RelocationCutOff}
 
 abbrev pub text : ElfError → List ℕ
 text NotElf = codes "this is not an ELF file"
@@ -19,3 +19,6 @@ text (NoSymbolTable index) = codes "section " ++ (decimal index ++ codes " is no
 text (SymbolEntrySize size) = codes "entries of the symbol table have " ++ (decimal size ++ codes " bytes, which this ELF class has not")
 text (NoSymbol index) = codes "the file has no symbol " ++ decimal index
 text (NoSectionOfSymbol index) = codes "the file does not tell the section of symbol " ++ decimal index
+text (NoRelocations index) = codes "section " ++ (decimal index ++ codes " is not a relocation section")
+text (RelocationEntrySize size) = codes "entries of a relocation section have " ++ (decimal size ++ codes " bytes, which this ELF class has not")
+text (RelocationCutOff index) = codes "section " ++ (decimal index ++ codes " ends within a relocation entry")

@@ -37,6 +37,12 @@ pub enum ElfError {
     NoSymbol(u64),
     /// The section of the symbol stands in a table that the file does not have, or that is too short.
     NoSectionOfSymbol(u64),
+    /// The section is no relocation section.
+    NoRelocations(u64),
+    /// The entries of the relocation section have another size than its kind and the class say.
+    RelocationEntrySize(u64),
+    /// The relocation section ends within an entry.
+    RelocationCutOff(u64),
 }
 
 /// Writes one sentence.
@@ -84,6 +90,18 @@ impl fmt::Display for ElfError {
             ElfError::NoSymbol(index) => write!(f, "the file has no symbol {index}"),
             ElfError::NoSectionOfSymbol(index) => {
                 write!(f, "the file does not tell the section of symbol {index}")
+            }
+            ElfError::NoRelocations(index) => {
+                write!(f, "section {index} is not a relocation section")
+            }
+            ElfError::RelocationEntrySize(size) => {
+                write!(
+                    f,
+                    "entries of a relocation section have {size} bytes, which this ELF class has not"
+                )
+            }
+            ElfError::RelocationCutOff(index) => {
+                write!(f, "section {index} ends within a relocation entry")
             }
         }
     }

@@ -4,6 +4,7 @@
 mod error;
 mod file;
 mod header;
+mod relocation;
 mod section;
 mod sections;
 mod symbol;
@@ -11,6 +12,7 @@ mod words;
 
 pub use error::ElfError;
 pub use file::{ElfFile, FileKind};
+pub use relocation::{RelocationEntry, Relocations};
 pub use section::Section;
 pub use sections::Sections;
 pub use symbol::{Symbol, SymbolPlace, SymbolTable};

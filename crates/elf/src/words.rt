@@ -77,13 +77,20 @@ impl<'a> Words<'a> {
         read_u32(&mut self.from(at)).unwrap()
     }
 
+    pub fn u64_at(&self, at: usize) -> u64
+        requires { at + 8 ≤ length self.now.bytes.now }
+        ensures { result ≡ number (words_is self.now) at 8 }
+    {
+        read_u64(&mut self.from(at)).unwrap()
+    }
+
     pub fn word_at(&self, at: usize) -> u64
         requires { at + word_of self.now.class ≤ length self.now.bytes.now }
         ensures { result ≡ word_at (words_is self.now) at }
     {
         match self.class {
             Class::Elf32 => self.u32_at(at) as u64,
-            Class::Elf64 => read_u64(&mut self.from(at)).unwrap(),
+            Class::Elf64 => self.u64_at(at),
         }
     }
 }

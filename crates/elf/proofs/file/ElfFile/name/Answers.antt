@@ -1,5 +1,5 @@
 -- The search for the zero byte finds what the list of bytes has first.
-use Rattle.std.proofs.Common.{◌≡◌, ◌==◌, Some, None, rules, tests, arith, sym, ◌∙◌}
+use Rattle.std.proofs.Common.{◌≡◌, ◌==◌, Some, None, rules, tests, sym, ◌∙◌}
 use Rattle.std.specs.List.{position}
 use Rattle.std.proofs.lemmas.Iterator.{YieldsList-from_slice}
 use Rattle.std.proofs.lemmas.Iterator.Search.{position_from_yields_List}

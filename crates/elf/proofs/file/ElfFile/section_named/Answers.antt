@@ -1,5 +1,5 @@
 -- The search over the iterator finds what the list of all sections has first.
-use Rattle.std.proofs.Common.{◌≡◌, Ok, List, rules, tests, find, Option, Some, None, option_map, refl, sym, ap, ◌∙◌}
+use Rattle.std.proofs.Common.{◌≡◌, rules, tests, find, sym, ◌∙◌}
 use Rattle.std.proofs.lemmas.Iterator.Search.{find_from_yields_List}
 use Rattle.std.proofs.lemmas.Iterator.Consumers.{YieldsList-from_first}
 use Rattle.elf.specs.declared.section.Section.{Section}
