@@ -1,2 +1,3 @@
 pub mod Told
 pub mod Lookups
+pub mod Headers

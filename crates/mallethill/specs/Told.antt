@@ -25,3 +25,8 @@ held before (fault f) = before
 -- what a buffer holds afterwards, if a list is written to its front, as much of it as has room
 abbrev pub filled : {A : Type 0} → List A → List A → List A
 filled before xs = take (length before) xs ++ drop (length xs) before
+
+-- an outcome with another answer in place of its own
+abbrev pub outcome_map : {A B : Type 0} → (A → B) → Outcome A → Outcome B
+outcome_map f (answer x) = answer (f x)
+outcome_map f (fault e) = fault e

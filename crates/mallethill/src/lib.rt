@@ -2,8 +2,10 @@
 #![tactic(auto)]
 
 mod fault;
+mod header;
 mod lookup;
 mod section;
 
 pub use fault::Fault;
+pub use header::SetHeader;
 pub use lookup::FoundRange;
