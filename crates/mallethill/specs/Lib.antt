@@ -1,3 +1,4 @@
 pub mod Told
 pub mod Lookups
 pub mod Headers
+pub mod Ranges

@@ -4,8 +4,10 @@
 mod fault;
 mod header;
 mod lookup;
+mod ranges;
 mod section;
 
 pub use fault::Fault;
 pub use header::SetHeader;
 pub use lookup::FoundRange;
+pub use ranges::{AddressRange, RangesRead};
