@@ -1,3 +1,4 @@
 pub mod Spans
 pub mod Fills
 pub mod Lists
+pub mod Rows

@@ -2,3 +2,4 @@ pub mod Told
 pub mod Lookups
 pub mod Headers
 pub mod Ranges
+pub mod Numbers

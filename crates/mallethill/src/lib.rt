@@ -6,8 +6,10 @@ mod header;
 mod lookup;
 mod ranges;
 mod section;
+mod uleb128;
 
 pub use fault::Fault;
 pub use header::SetHeader;
 pub use lookup::FoundRange;
 pub use ranges::{AddressRange, RangesRead};
+pub use uleb128::NumbersRead;

@@ -39,8 +39,8 @@ loop-entry-preserved-in-Ok-Some g c =
       omega (arith, v.1, i.4),
     )
 
-pub returns-in-Ok-None-clause-answer : goal.returns-in-Ok-None-clause-answer
-returns-in-Ok-None-clause-answer g c =
+pub returns-in-Ok-None : goal.returns-in-Ok-None
+returns-in-Ok-None g c =
     let l = entries_is g.R.Reader.means c.loop-entry.entries in
     let b = entries_is g.R.Reader.means c.next.new.self in
     let i = c.loop-entry.invariant in
@@ -48,18 +48,10 @@ returns-in-Ok-None-clause-answer g c =
     let v = lists_ok l b c.in-Ok-None.field-0 None c.in-Ok-None.field-0-is c.in-Ok-None.ensures in
     let all : listed_on (entries_of (header_is g.R.Reader.means g.R.Offset.ReaderOffset.number c.args.header.now)) ≡ record { ranges = i.0; passed = p } =
     sym (ap listed_on c.entries-entries.ensures) ∙ i.3 ∙ ap (behind i.0 p) v ∙ behind_all i.0 p in
-    ap (λ (n : ℕ). record { count = n; passed = p }) (sym i.1) ∙ sym (ap counted all)
-
-pub returns-in-Ok-None-clause-ranges : goal.returns-in-Ok-None-clause-ranges
-returns-in-Ok-None-clause-ranges g c =
-    let l = entries_is g.R.Reader.means c.loop-entry.entries in
-    let b = entries_is g.R.Reader.means c.next.new.self in
-    let i = c.loop-entry.invariant in
-    let p = c.loop-entry.passed in
-    let v = lists_ok l b c.in-Ok-None.field-0 None c.in-Ok-None.field-0-is c.in-Ok-None.ensures in
-    let all : listed_on (entries_of (header_is g.R.Reader.means g.R.Offset.ReaderOffset.number c.args.header.now)) ≡ record { ranges = i.0; passed = p } =
-    sym (ap listed_on c.entries-entries.ensures) ∙ i.3 ∙ ap (behind i.0 p) v ∙ behind_all i.0 p in
-    i.2 ∙ sym (ap (λ (x : Listed). filled c.args.ranges.now x.ranges) all)
+    record {
+      answer = ap (λ (n : ℕ). record { count = n; passed = p }) (sym i.1) ∙ sym (ap counted all);
+      ranges = i.2 ∙ sym (ap (λ (x : Listed). filled c.args.ranges.now x.ranges) all);
+    }
 
 pub loop-entry-smaller : goal.loop-entry-smaller
 loop-entry-smaller g c =
