@@ -1,1 +1,4 @@
-pub mod Shorter
+pub mod Spans
+pub mod Fills
+pub mod Lists
+pub mod Rows

@@ -1,0 +1,5 @@
+pub mod Told
+pub mod Lookups
+pub mod Headers
+pub mod Ranges
+pub mod Numbers

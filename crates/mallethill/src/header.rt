@@ -1,0 +1,73 @@
+// The header of a set.
+ghost use Rattle.std.specs.Prelude.{◌≡◌, ◌^◌, ◌<◌, ◌≤◌, ◌+◌, length, IfOk};
+ghost use Rattle.readers.specs.Links.{outcome_is};
+ghost use Rattle.aranges.specs.Links.{header_is};
+ghost use Rattle.aranges.specs.Sets.{header_past, span};
+ghost use Rattle.readers.specs.Reading.{plain};
+ghost use Rattle.section_reader.specs.Means.{section_means};
+ghost use Rattle.mallethill.specs.Told.{returned, held};
+ghost use Rattle.mallethill.specs.Headers.{fields_of, header_at};
+
+use crate::fault::{Fault, settle};
+use crate::section::open;
+use aranges::{ArangeHeader, DebugAranges};
+use readers::{DebugArangesOffset, Error};
+use section_reader::EndianSlice;
+
+/// The header of a set, and the offset behind the set.
+#[repr(C)]
+#[derive(Clone, Copy)]
+pub struct SetHeader {
+    pub offset: u64,
+    pub length: u64,
+    pub debug_info_offset: u64,
+    pub next: u64,
+    pub version: u16,
+    pub address_size: u8,
+    pub word_size: u8,
+}
+
+/// The header of the set at an offset of a section.
+#[unsafe(no_mangle)]
+pub extern "C" fn mallethill_header(
+    section: &[u8],
+    big_endian: bool,
+    offset: u64,
+    answer: &mut SetHeader,
+) -> Fault
+    ensures fault { result ≡ returned (header_at section.now big_endian offset) }
+    ensures answer { answer.new ≡ held answer.old (header_at section.now big_endian offset) }
+{
+    settle(read_header(section, big_endian, offset), answer)
+}
+
+fn read_header(section: &[u8], big_endian: bool, offset: u64) -> Result<SetHeader, Error>
+    ensures { outcome_is (λ x. x) result ≡ header_at section.now big_endian offset }
+{
+    let header = open_set(section, big_endian, offset)?;
+    let encoding = header.encoding();
+    let size = encoding.format.initial_length_size() as u64 + header.length() as u64;
+    Ok(SetHeader {
+        offset: header.offset().0,
+        length: header.length() as u64,
+        debug_info_offset: header.debug_info_offset().0 as u64,
+        next: header.offset().0 + size,
+        version: encoding.version,
+        address_size: encoding.address_size,
+        word_size: encoding.format.word_size(),
+    })
+}
+
+/// The set at an offset of a section.
+#[tactic(auto, using(crate::proofs::Spans::inside))]
+pub fn open_set(
+    section: &[u8],
+    big_endian: bool,
+    offset: u64,
+) -> Result<ArangeHeader<EndianSlice<'_>>, Error>
+    ensures reads { outcome_is (header_is section_means (λ x. x)) result ≡ header_past (2 ^ 64) offset (plain 0 section.now big_endian) }
+    ensures inside { IfOk result (λ h. ((header_is section_means (λ x. x) h).place + span (header_is section_means (λ x. x) h) ≤ length section.now) × (length (header_is section_means (λ x. x) h).tuples.rest ≤ length section.now)) }
+{
+    let section = DebugAranges::new(open(section, big_endian));
+    section.header(DebugArangesOffset(offset as usize))
+}

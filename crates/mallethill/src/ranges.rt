@@ -1,0 +1,92 @@
+// The ranges of a set.
+ghost use Rattle.std.specs.Prelude.{◌≡◌, ◌^◌, ◌<◌, length};
+ghost use Rattle.readers.specs.Links.{outcome_is};
+ghost use Rattle.aranges.specs.Links.{header_is};
+ghost use Rattle.aranges.specs.Iterators.{entries_of};
+ghost use Rattle.mallethill.specs.Told.{returned, held, filled, outcome_map};
+ghost use Rattle.mallethill.specs.Ranges.{listed_on, listed_at, counted};
+
+use crate::fault::{Fault, settle};
+use crate::header::open_set;
+use aranges::ArangeHeader;
+use readers::{AddressReader, Error, Reader};
+
+/// The addresses from `begin` on, up to `end` and without it.
+#[repr(C)]
+#[derive(Clone, Copy)]
+pub struct AddressRange {
+    pub begin: u64,
+    pub end: u64,
+}
+
+/// How many ranges a set has, and how many faulty tuples were passed.
+#[repr(C)]
+#[derive(Clone, Copy)]
+pub struct RangesRead {
+    pub count: u64,
+    pub passed: u64,
+}
+
+/// The ranges of the set at an offset of a section: those for which there is room are written, all are counted.
+#[unsafe(no_mangle)]
+pub extern "C" fn mallethill_ranges(
+    section: &[u8],
+    big_endian: bool,
+    offset: u64,
+    ranges: &mut [AddressRange],
+    answer: &mut RangesRead,
+) -> Fault
+    ensures fault { result ≡ returned (listed_at section.now big_endian offset) }
+    ensures answer { answer.new ≡ held answer.old (outcome_map counted (listed_at section.now big_endian offset)) }
+    ensures ranges { ranges.new ≡ held ranges.old (outcome_map (λ l. filled ranges.old l.ranges) (listed_at section.now big_endian offset)) }
+{
+    settle(read_set(section, big_endian, offset, ranges), answer)
+}
+
+fn read_set(
+    section: &[u8],
+    big_endian: bool,
+    offset: u64,
+    ranges: &mut [AddressRange],
+) -> Result<RangesRead, Error>
+    ensures answer { outcome_is (λ x. x) result ≡ outcome_map counted (listed_at section.now big_endian offset) }
+    ensures ranges { ranges.new ≡ held ranges.old (outcome_map (λ l. filled ranges.old l.ranges) (listed_at section.now big_endian offset)) }
+{
+    let header = open_set(section, big_endian, offset)?;
+    Ok(read_ranges(&header, ranges))
+}
+
+// The ranges of a set: one pass, which writes while there is room and counts on.
+fn read_ranges<R: AddressReader>(
+    header: &ArangeHeader<R>,
+    ranges: &mut [AddressRange],
+) -> RangesRead
+    requires { length (R.Reader.means header.now.entries).rest < 2 ^ 64 }
+    ensures answer { result ≡ counted (listed_on (entries_of (header_is R.Reader.means R.Offset.ReaderOffset.number header.now))) }
+    ensures ranges { ranges.new ≡ filled ranges.old (listed_on (entries_of (header_is R.Reader.means R.Offset.ReaderOffset.number header.now))).ranges }
+{
+    let mut entries = header.entries();
+    let mut count = 0usize;
+    let mut passed = 0u64;
+    loop {
+        match entries.next() {
+            Ok(Some(entry)) => {
+                let range = entry.range();
+                if count < ranges.len() {
+                    ranges[count] = AddressRange {
+                        begin: range.begin,
+                        end: range.end,
+                    };
+                }
+                count += 1;
+            }
+            Ok(None) => {
+                return RangesRead {
+                    count: count as u64,
+                    passed,
+                };
+            }
+            Err(_) => passed += 1,
+        }
+    }
+}

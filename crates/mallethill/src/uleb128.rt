@@ -1,0 +1,57 @@
+// Rows of unsigned LEB128 numbers.
+ghost use Rattle.std.specs.Prelude.{◌≡◌, length};
+ghost use Rattle.mallethill.specs.Told.{filled};
+ghost use Rattle.mallethill.specs.Numbers.{row, row_of, counted};
+
+use crate::fault::Fault;
+use crate::section::open;
+use leb128::read_uleb128;
+use numbers::is_empty;
+use readers::Reader;
+
+/// How many numbers were read, and how many bytes they take.
+#[repr(C)]
+#[derive(Clone, Copy)]
+pub struct NumbersRead {
+    pub count: u64,
+    pub taken: u64,
+}
+
+/// The unsigned LEB128 numbers at the front of some bytes, until the bytes or the room end. At a number that cannot be
+/// read, the fault comes beside the numbers before it.
+#[unsafe(no_mangle)]
+pub extern "C" fn mallethill_uleb128(
+    bytes: &[u8],
+    numbers: &mut [u64],
+    answer: &mut NumbersRead,
+) -> Fault
+    ensures fault { result ≡ (row_of bytes.now (length numbers.old)).ended }
+    ensures answer { answer.new ≡ counted (row_of bytes.now (length numbers.old)) }
+    ensures numbers { numbers.new ≡ filled numbers.old (row_of bytes.now (length numbers.old)).numbers }
+{
+    // of one byte each, so either order will do
+    let (read, fault) = read_row(open(bytes, false), numbers);
+    *answer = read;
+    fault
+}
+
+fn read_row<R: Reader>(mut reader: R, numbers: &mut [u64]) -> (NumbersRead, Fault)
+    ensures fault { result.1 ≡ (row (length numbers.old) (R.Reader.means reader)).ended }
+    ensures answer { result.0 ≡ counted (row (length numbers.old) (R.Reader.means reader)) }
+    ensures numbers { numbers.new ≡ filled numbers.old (row (length numbers.old) (R.Reader.means reader)).numbers }
+{
+    let mut count = 0usize;
+    while count < numbers.len() && !is_empty(&reader) {
+        let taken = reader.offset_id().0;
+        match read_uleb128(&mut reader) {
+            Ok(number) => numbers[count] = number,
+            Err(error) => {
+                let count = count as u64;
+                return (NumbersRead { count, taken }, Fault::from(error));
+            }
+        }
+        count += 1;
+    }
+    let (count, taken) = (count as u64, reader.offset_id().0);
+    (NumbersRead { count, taken }, Fault::NONE)
+}
