@@ -1,0 +1,3 @@
+pub mod Addresses
+pub mod Surveys
+pub mod SurveyLinks

@@ -1,0 +1,71 @@
+// Addresses as they are written: hexadecimal digits, with or without 0x before them.
+ghost use Rattle.std.specs.Prelude.{◌≡◌};
+ghost use Rattle.unit_report.specs.Addresses.{digit_of, with_digit, digits_of, address_of};
+
+use std::fmt;
+
+// Above this a digit more takes the number past 64 bits.
+const HIGHEST_BUT_ONE: u64 = 0x0fff_ffff_ffff_ffff;
+
+/// Why a word is no address.
+#[derive(Clone, Copy, PartialEq, Eq, Debug)]
+pub enum AddressError {
+    NotHexadecimal,
+    TooLarge,
+}
+
+impl fmt::Display for AddressError {
+    fn fmt<W: fmt::Write>(&self, f: &mut fmt::Formatter<W>) -> fmt::Result {
+        match self {
+            AddressError::NotHexadecimal => write!(f, "is not a hexadecimal address"),
+            AddressError::TooLarge => write!(f, "is an address of more than 64 bits"),
+        }
+    }
+}
+
+/// The address that a word names.
+pub fn parse_address(word: &[u8]) -> Result<u64, AddressError>
+    ensures { result ≡ address_of word.now }
+{
+    let digits = digits_of(word);
+    if digits.is_empty() {
+        return Err(AddressError::NotHexadecimal);
+    }
+    let mut value = 0;
+    for byte in digits {
+        value = with_digit(value, *byte)?;
+    }
+    Ok(value)
+}
+
+// what stands behind 0x, or the whole word where it does not begin so
+fn digits_of(word: &[u8]) -> &[u8]
+    ensures { result.now ≡ digits_of word.now }
+{
+    match word {
+        [b'0', b'x' | b'X', digits @ ..] => digits,
+        _ => word,
+    }
+}
+
+// a number with a digit more
+fn with_digit(value: u64, byte: u8) -> Result<u64, AddressError>
+    ensures { result ≡ with_digit value byte }
+{
+    let digit = digit_of(byte).ok_or(AddressError::NotHexadecimal)?;
+    if value > HIGHEST_BUT_ONE {
+        return Err(AddressError::TooLarge);
+    }
+    Ok(value * 16 + digit as u64)
+}
+
+fn digit_of(byte: u8) -> Option<u8>
+    ensures { result ≡ digit_of byte }
+{
+    match byte {
+        b'0'..=b'9' => Some(byte - b'0'),
+        b'a'..=b'f' => Some(byte - b'a' + 10),
+        b'A'..=b'F' => Some(byte - b'A' + 10),
+        _ => None,
+    }
+}
