@@ -1,0 +1,5 @@
+pub mod Machines
+pub mod Texts
+pub mod Links
+pub mod Records
+pub mod RecordLinks
