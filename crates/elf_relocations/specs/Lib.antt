@@ -3,3 +3,5 @@ pub mod Texts
 pub mod Links
 pub mod Records
 pub mod RecordLinks
+pub mod Tables
+pub mod TableLinks

@@ -15,7 +15,7 @@ use Rattle.elf_relocations.specs.declared.machine.Machine.{Machine}
 use Rattle.elf_relocations.specs.declared.machine.Width.{Width}
 use Rattle.elf_relocations.specs.declared.machine.Width.TheVariants.{Four, Eight}
 use Rattle.elf_relocations.specs.declared.machine.Action.{Action}
-use Rattle.elf_relocations.specs.declared.machine.Action.TheVariants.{Nothing, Absolute, Add, Sub, Unsupported}
+use Rattle.elf_relocations.specs.declared.machine.Action.TheVariants.{Nothing, Absolute, Add, Sub}
 use Rattle.elf_relocations.specs.declared.record.Applied.{Applied}
 use Rattle.elf_relocations.specs.Machines.{machine_of, action_of, wrapped}
 use Rattle.elf_relocations.specs.Links.{and_then, from_elf}
@@ -49,10 +49,10 @@ target_in f e v (place.Reserved n) = Err (SymbolWithoutAddress e.symbol e.offset
 abbrev pub target_of : Source → RelocationEntry → Result Target RelocationError
 target_of s e = from_elf (symbol_or s.symbols e.symbol) (λ y. target_in s.file e (plus y.value (unwrap_or e.addend 0)) y.place)
 
--- an action, where it is one that is done here
-abbrev pub supported : Machine → RelocationEntry → Action → Result Action RelocationError
-supported m e Unsupported = Err (UnsupportedRelocation m e.kind e.offset)
-supported m e a = Ok a
+-- what is done for a kind of relocation, where it is done here
+abbrev pub supported : Machine → RelocationEntry → Option Action → Result Action RelocationError
+supported m e (Some a) = Ok a
+supported m e None = Err (UnsupportedRelocation m e.kind e.offset)
 
 abbrev pub action_by : ℕ → RelocationEntry → Option Machine → Result Action RelocationError
 action_by n e (Some m) = supported m e (action_of m e.kind)

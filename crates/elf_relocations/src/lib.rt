@@ -4,6 +4,7 @@
 mod error;
 mod machine;
 mod record;
+mod table;
 
 pub use error::RelocationError;
 pub use machine::{Machine, Width};

@@ -34,9 +34,8 @@ pub enum Action {
     Absolute(Width),
     /// Adds an address, and comes before one that subtracts another there.
     Add(Width),
+    /// Subtracts an address.
     Sub(Width),
-    /// Something that is not done here.
-    Unsupported,
 }
 
 impl Machine {
@@ -57,30 +56,30 @@ impl Machine {
         }
     }
 
-    /// What a kind of relocation does; 0 is no relocation on each machine.
-    pub fn action(self, kind: u32) -> Action
+    /// What a kind of relocation does, if that is done here; 0 is no relocation on each machine.
+    pub fn action(self, kind: u32) -> Option<Action>
         ensures { result ≡ action_of self kind }
     {
         match (self, kind) {
-            (_, 0) => Action::Nothing,
-            (Machine::I386, 1) => Action::Absolute(Width::Four),
-            (Machine::Mips, 2) => Action::Absolute(Width::Four),
-            (Machine::Mips, 18) => Action::Absolute(Width::Eight),
-            (Machine::PowerPc, 1) => Action::Absolute(Width::Four),
-            (Machine::PowerPc64, 1) => Action::Absolute(Width::Four),
-            (Machine::PowerPc64, 38) => Action::Absolute(Width::Eight),
-            (Machine::Arm, 2) => Action::Absolute(Width::Four),
-            (Machine::X8664, 1) => Action::Absolute(Width::Eight),
-            (Machine::X8664, 10) => Action::Absolute(Width::Four),
-            (Machine::AArch64, 257) => Action::Absolute(Width::Eight),
-            (Machine::AArch64, 258) => Action::Absolute(Width::Four),
-            (Machine::RiscV, 1) => Action::Absolute(Width::Four),
-            (Machine::RiscV, 2) => Action::Absolute(Width::Eight),
-            (Machine::RiscV, 35) => Action::Add(Width::Four),
-            (Machine::RiscV, 36) => Action::Add(Width::Eight),
-            (Machine::RiscV, 39) => Action::Sub(Width::Four),
-            (Machine::RiscV, 40) => Action::Sub(Width::Eight),
-            _ => Action::Unsupported,
+            (_, 0) => Some(Action::Nothing),
+            (Machine::I386, 1) => Some(Action::Absolute(Width::Four)),
+            (Machine::Mips, 2) => Some(Action::Absolute(Width::Four)),
+            (Machine::Mips, 18) => Some(Action::Absolute(Width::Eight)),
+            (Machine::PowerPc, 1) => Some(Action::Absolute(Width::Four)),
+            (Machine::PowerPc64, 1) => Some(Action::Absolute(Width::Four)),
+            (Machine::PowerPc64, 38) => Some(Action::Absolute(Width::Eight)),
+            (Machine::Arm, 2) => Some(Action::Absolute(Width::Four)),
+            (Machine::X8664, 1) => Some(Action::Absolute(Width::Eight)),
+            (Machine::X8664, 10) => Some(Action::Absolute(Width::Four)),
+            (Machine::AArch64, 257) => Some(Action::Absolute(Width::Eight)),
+            (Machine::AArch64, 258) => Some(Action::Absolute(Width::Four)),
+            (Machine::RiscV, 1) => Some(Action::Absolute(Width::Four)),
+            (Machine::RiscV, 2) => Some(Action::Absolute(Width::Eight)),
+            (Machine::RiscV, 35) => Some(Action::Add(Width::Four)),
+            (Machine::RiscV, 36) => Some(Action::Add(Width::Eight)),
+            (Machine::RiscV, 39) => Some(Action::Sub(Width::Four)),
+            (Machine::RiscV, 40) => Some(Action::Sub(Width::Eight)),
+            _ => None,
         }
     }
 }

@@ -67,14 +67,13 @@ impl Source<'_> {
     {
         let number = self.file.machine();
         let machine = Machine::of(number).ok_or(RelocationError::UnknownMachine(number))?;
-        match machine.action(entry.kind) {
-            Action::Unsupported => Err(RelocationError::UnsupportedRelocation {
+        machine
+            .action(entry.kind)
+            .ok_or(RelocationError::UnsupportedRelocation {
                 machine,
                 kind: entry.kind,
                 offset: entry.offset,
-            }),
-            action => Ok(action),
-        }
+            })
     }
 
     /// The record of an address: it replaces the place if the entry has an addend, and else is added to it.
