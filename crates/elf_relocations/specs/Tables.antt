@@ -1,5 +1,6 @@
 -- The records of a section: what all relocation entries for it make, one after another.
-use Rattle.std.specs.Prelude.{ℕ, Bool, cond, ◌&&◌, ◌||◌, List, [], ◌∷◌, ◌++◌, Option, Some, None, Ok, Err, Result, ◌==◌}
+use Rattle.std.specs.Prelude.{ℕ, Bool, cond, ◌&&◌, ◌||◌, List, [], ◌∷◌, ◌++◌, map, Option, Some, None, Ok, Err, Result, ◌==◌}
+use Rattle.std.specs.List.{list_any}
 use Rattle.elf.specs.declared.relocation.RelocationEntry.{RelocationEntry}
 use Rattle.elf.specs.declared.section.Section.{Section}
 use Rattle.elf.specs.Files.{File, section_or, all_sections}
@@ -74,3 +75,25 @@ sections_taken f target m (s ∷ ss) =
     cond (relocates target s)
     (and_then (section_taken f m s) (λ n. sections_taken f target n ss))
     (sections_taken f target m ss)
+
+-- the first of some offsets that was seen before it
+abbrev pub repeated : List ℕ → List ℕ → Option ℕ
+repeated seen [] = None
+repeated seen (o ∷ os) = cond (list_any (λ x. x == o) seen) (Some o) (repeated (o ∷ seen) os)
+
+abbrev pub refused_at : Option ℕ → Result (Unit {0}) RelocationError
+refused_at (Some o) = Err (TwoRelocations o)
+refused_at None = Ok tt
+
+-- no two records may be for one place
+abbrev pub checked : List Applied → Result (Unit {0}) RelocationError
+checked rs = refused_at (repeated [] (map (λ r. r.relocation.offset) rs))
+
+-- the records of the section with an index: those that its relocation sections make, one after another; a file that
+-- is linked, so that its kind is not 1, has none
+abbrev pub table_of : File → ℕ → Result (List Applied) RelocationError
+table_of f target =
+    cond (f.kind == 1)
+    (and_then (sections_taken f target (made [] None) (all_sections f)) (λ m.
+    and_then (checked m.records) (λ _. Ok m.records)))
+    (Ok [])

@@ -1,13 +1,15 @@
 // The records of a section: what all relocation entries for it make, one after another.
 ghost use Rattle.std.specs.Prelude.{◌≡◌, map, IfOk};
-ghost use Rattle.elf_relocations.specs.Tables.{relocates};
+ghost use Rattle.elf_relocations.specs.Tables.{relocates, checked};
+ghost use Rattle.elf_relocations.specs.TableLinks.{Took};
 
 use crate::error::RelocationError;
 use crate::machine::{Action, Width};
 use crate::record::{Applied, Source};
-use elf::{ElfFile, FileKind, RelocationEntry, Section};
+use elf::{ElfFile, FileKind, RelocationEntry, Relocations, Section};
 use relocate::Relocation;
 use std::alloc::{AllocError, Global};
+use std::collections::BTreeSet;
 
 // kinds of sections that have relocation entries
 const WITH_ADDENDS: u32 = 4;
@@ -30,8 +32,9 @@ struct Made {
 
 impl Made {
     ghost use Rattle.elf_relocations.specs.RecordLinks.{source_is};
-    ghost use Rattle.elf_relocations.specs.Tables.{taken, section_taken};
-    ghost use Rattle.elf_relocations.specs.TableLinks.{made_is, Took};
+    ghost use Rattle.elf_relocations.specs.Tables.{taken, all_taken, section_taken};
+    ghost use Rattle.elf.specs.RelocationLinks.{left};
+    ghost use Rattle.elf_relocations.specs.TableLinks.{made_is};
     ghost use Rattle.elf.specs.FileLinks.{file_is};
 
     // one entry more
@@ -53,4 +56,51 @@ impl Made {
         }
         Ok(())
     }
+
+    // the entries of one relocation section, whose link is the table of their symbols
+    fn take_section(&mut self, file: &ElfFile, section: &Section) -> Result<(), RelocationError>
+        ensures { Took result (made_is self.new) (section_taken (file_is file.now) (made_is self.old) section.now) }
+    {
+        let table = file.section(section.link as u64)?;
+        let source = Source {
+            file: *file,
+            symbols: file.symbols(&table)?,
+        };
+        self.take_all(&source, file.relocations(section)?)?;
+        match self.waiting {
+            Some(first) => Err(RelocationError::AddWithoutSub(first.entry.offset)),
+            None => Ok(()),
+        }
+    }
+
+    fn take_all(&mut self, source: &Source, entries: Relocations) -> Result<(), RelocationError>
+        ensures { Took result (made_is self.new) (all_taken (source_is source.now) (made_is self.old) (left entries.entry)) }
+    {
+        for entry in entries {
+            self.take(source, entry)?;
+        }
+        Ok(())
+    }
+}
+
+// whether a section has relocations of the section with an index
+fn relocates(section: &Section, target: u64) -> bool
+    ensures { result ≡ relocates target section.now }
+{
+    let entries = section.kind == WITH_ADDENDS || section.kind == WITHOUT_ADDENDS;
+    entries && section.info as u64 == target
+}
+
+// no two records may be for one place: it would show only one of them
+fn check_places(heap: Global, records: &[Applied]) -> Result<(), RelocationError>
+    ensures { Took result tt (checked records.now) }
+{
+    let mut seen = BTreeSet::new(heap);
+    for record in records {
+        let offset = record.relocation.offset;
+        if !seen.insert(offset)? {
+            return Err(RelocationError::TwoRelocations(offset));
+        }
+    }
+    Ok(())
 }
