@@ -1,11 +1,7 @@
 -- One entry after another.
-use Rattle.std.proofs.Common.{◌≡◌, List, ◌∷◌, Ok, Err, Result, refl, sym, ap, ◌∙◌}
+use Rattle.std.proofs.Common.{◌≡◌, Err, Result}
 use Rattle.elf_relocations.specs.declared.error.RelocationError.{RelocationError}
 use Rattle.elf_relocations.specs.declared.error.RelocationError.TheVariants.{Elf, NoMemory, UnknownMachine, UnsupportedRelocation, SymbolWithoutAddress, AddWithoutSub, SubWithoutAdd, DifferentSections, TwoRelocations}
-use Rattle.elf.specs.declared.relocation.RelocationEntry.{RelocationEntry}
-use Rattle.elf_relocations.specs.Links.{and_then}
-use Rattle.elf_relocations.specs.Records.{Source}
-use Rattle.elf_relocations.specs.Tables.{Made, taken, all_taken}
 use Rattle.elf_relocations.specs.TableLinks.{Refused}
 
 -- the error that the definition tells is one to refuse with

@@ -1,5 +1,5 @@
 -- The machines, and what their kinds of relocations do.
-use Rattle.std.specs.Prelude.{ℕ, ◌*◌, ◌%◌, ◌^◌, cond, Option, Some, None, ◌==◌}
+use Rattle.std.specs.Prelude.{ℕ, ◌%◌, ◌^◌, cond, Option, Some, None, ◌==◌}
 use Rattle.elf_relocations.specs.declared.machine.Machine.{Machine}
 use Rattle.elf_relocations.specs.declared.machine.Machine.TheVariants.{I386, Mips, PowerPc, PowerPc64, Arm, X8664, AArch64, RiscV}
 use Rattle.elf_relocations.specs.declared.machine.Width.{Width}

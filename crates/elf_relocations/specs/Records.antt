@@ -1,21 +1,19 @@
 -- What the entries of a relocation section make of their places.
-use Rattle.std.specs.Prelude.{ℕ, ◌+◌, ◌-◌, ◌%◌, ◌^◌, Bool, cond, false, true, ◌&&◌, Option, Some, None, Ok, Err, Result, unwrap_or, ◌==◌}
-use Rattle.relocate.specs.declared.policy.Relocation.{Relocation}
+use Rattle.std.specs.Prelude.{ℕ, ◌+◌, ◌-◌, ◌%◌, ◌^◌, Bool, cond, false, true, Option, Some, None, Ok, Err, Result, unwrap_or, ◌==◌}
 use Rattle.relocate.specs.declared.policy.RelocationKind.{RelocationKind}
 use Rattle.relocate.specs.declared.policy.RelocationKind.TheVariants as kind
 use Rattle.elf.specs.declared.relocation.RelocationEntry.{RelocationEntry}
-use Rattle.elf.specs.declared.symbol.Symbol.{Symbol}
 use Rattle.elf.specs.declared.symbol.SymbolPlace.{SymbolPlace}
 use Rattle.elf.specs.declared.symbol.SymbolPlace.TheVariants as place
 use Rattle.elf.specs.Files.{File, section_or}
 use Rattle.elf.specs.Symbols.{Table, symbol_or}
 use Rattle.elf_relocations.specs.declared.error.RelocationError.{RelocationError}
-use Rattle.elf_relocations.specs.declared.error.RelocationError.TheVariants.{UnknownMachine, UnsupportedRelocation, SymbolWithoutAddress, AddWithoutSub, SubWithoutAdd, DifferentSections}
+use Rattle.elf_relocations.specs.declared.error.RelocationError.TheVariants.{UnknownMachine, UnsupportedRelocation, SymbolWithoutAddress, AddWithoutSub, DifferentSections}
 use Rattle.elf_relocations.specs.declared.machine.Machine.{Machine}
 use Rattle.elf_relocations.specs.declared.machine.Width.{Width}
 use Rattle.elf_relocations.specs.declared.machine.Width.TheVariants.{Four, Eight}
 use Rattle.elf_relocations.specs.declared.machine.Action.{Action}
-use Rattle.elf_relocations.specs.declared.machine.Action.TheVariants.{Nothing, Absolute, Add, Sub}
+use Rattle.elf_relocations.specs.declared.machine.Action.TheVariants.{Sub}
 use Rattle.elf_relocations.specs.declared.record.Applied.{Applied}
 use Rattle.elf_relocations.specs.Machines.{machine_of, action_of, wrapped}
 use Rattle.elf_relocations.specs.Links.{and_then, from_elf}

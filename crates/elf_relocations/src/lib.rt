@@ -9,3 +9,4 @@ mod table;
 pub use error::RelocationError;
 pub use machine::{Machine, Width};
 pub use record::Applied;
+pub use table::{records, relocations_for};

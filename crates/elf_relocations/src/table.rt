@@ -1,7 +1,8 @@
 // The records of a section: what all relocation entries for it make, one after another.
-ghost use Rattle.std.specs.Prelude.{◌≡◌, map, IfOk};
-ghost use Rattle.elf_relocations.specs.Tables.{relocates, checked};
-ghost use Rattle.elf_relocations.specs.TableLinks.{Took};
+ghost use Rattle.std.specs.Prelude.{◌≡◌, map, IfOk, [], None};
+ghost use Rattle.elf_relocations.specs.Tables.{relocates, checked, table_of};
+ghost use Rattle.elf_relocations.specs.TableLinks.{Took, Answered};
+ghost use Rattle.elf.specs.FileLinks.{file_is};
 
 use crate::error::RelocationError;
 use crate::machine::{Action, Width};
@@ -32,10 +33,31 @@ struct Made {
 
 impl Made {
     ghost use Rattle.elf_relocations.specs.RecordLinks.{source_is};
-    ghost use Rattle.elf_relocations.specs.Tables.{taken, all_taken, section_taken};
+    ghost use Rattle.elf_relocations.specs.Tables.{made, taken, all_taken, section_taken, sections_taken};
+    ghost use Rattle.elf.specs.Files.{all_sections};
     ghost use Rattle.elf.specs.RelocationLinks.{left};
     ghost use Rattle.elf_relocations.specs.TableLinks.{made_is};
-    ghost use Rattle.elf.specs.FileLinks.{file_is};
+
+    fn new(heap: Global) -> Made
+        ensures { made_is result ≡ made [] None }
+    {
+        Made {
+            records: Vec::new(heap),
+            waiting: None,
+        }
+    }
+
+    // the relocation sections of a section one after another
+    fn take_sections(&mut self, file: &ElfFile, target: u64) -> Result<(), RelocationError>
+        ensures { Took result (made_is self.new) (sections_taken (file_is file.now) target (made_is self.old) (all_sections (file_is file.now))) }
+    {
+        for section in file.sections() {
+            if relocates(&section, target) {
+                self.take_section(file, &section)?;
+            }
+        }
+        Ok(())
+    }
 
     // one entry more
     #[tactic(auto, using(crate::proofs::Taking::refused))]
@@ -81,6 +103,29 @@ impl Made {
         }
         Ok(())
     }
+}
+
+/// The records for the section with an index, which a file that is linked has none of.
+pub fn relocations_for(
+    heap: Global,
+    file: &ElfFile,
+    section: u64,
+) -> Result<Vec<Applied>, RelocationError>
+    ensures { Answered result (table_of (file_is file.now) section) }
+{
+    let mut made = Made::new(heap);
+    if file.kind() == FileKind::Relocatable {
+        made.take_sections(file, section)?;
+        check_places(heap, &made.records)?;
+    }
+    Ok(made.records)
+}
+
+/// The records as a relocation table has them.
+pub fn records(heap: Global, applied: &[Applied]) -> Result<Vec<Relocation>, AllocError>
+    ensures { IfOk result (λ v. v.items ≡ map (λ a. a.relocation) applied.now) }
+{
+    applied.iter().map(|record| record.relocation).collect(heap)
 }
 
 // whether a section has relocations of the section with an index
