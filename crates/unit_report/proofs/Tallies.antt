@@ -1,5 +1,5 @@
 -- A survey of one set from what next answers, and of the sets from what next header answers.
-use Rattle.std.proofs.Common.{◌≡◌, ℕ, zero, suc, ◌+◌, ◌-◌, ◌*◌, ◌<◌, ◌≤◌, length, Some, None, Ok, Err, Option, Result, sym, refl, ap, ◌∙◌, subst, arith, length-drop, option_map}
+use Rattle.std.proofs.Common.{◌≡◌, ℕ, List, zero, suc, ◌-◌, ◌*◌, ◌<◌, ◌≤◌, length, Some, None, Ok, Err, Option, Result, sym, refl, ap, ◌∙◌, subst, arith, length-drop, option_map}
 use native.Mathlib.Nat.{zero-div}
 use Rattle.readers.specs.declared.error.Error.{Error}
 use Rattle.readers.specs.Links.{Did, outcome_is, fault_is}
@@ -10,11 +10,11 @@ use Rattle.aranges.specs.Sets.{Header}
 use Rattle.aranges.specs.Tuples as says
 use Rattle.aranges.specs.Tuples.{converted, Says, nothing, entry, overflow, refused, Told, found, failed, over, two}
 use Rattle.aranges.specs.Iterators.{Left, first, count, draw, next_set}
-use Rattle.aranges.specs.Links.{Drew, told_is, entry_is}
+use Rattle.aranges.specs.Links.{Drew, told_is}
 use Rattle.aranges.proofs.Draws.{left, first_by, first_more}
 use Rattle.aranges.proofs.Converts.{counted}
 use Rattle.aranges.proofs.Shorter.{next_shorter, next_none}
-use Rattle.unit_report.specs.Surveys.{Tally, with_range, with_odd, with_tuple, header, tally, tally_left, tally_set, tally_by, tally_sets}
+use Rattle.unit_report.specs.Surveys.{Odd, Tally, with_range, with_tuple, tally, tally_left, tally_set, tally_by, tally_sets}
 
 -- what the tally x of a set is, by next's answer, which leaves b
 abbrev Goes : ℕ → ℕ → ℕ → Meaning → Told → Meaning → Tally → Tally → Type 0
@@ -130,3 +130,17 @@ tallies_ok p i l b t o x e d = tallies p i l b t (Ok x) (subst (λ (y : Option A
 -- the size of addresses stays
 pub same_size : (l b : Left) (r : Result (Option ArangeEntry) Error) → Drew r b (draw converted l) → b.size ≡ l.size
 same_size l b r d = ap (λ (x : Left). x.size) d.leaves
+
+abbrev pub tallied : ℕ → ℕ → List Odd → Tally
+tallied n k os = record { sets = n; ranges = k; oddities = os }
+
+-- the arms of a match on what next header answered
+pub in_set : {A : Type 0} (f : A → Header) (limit b s : ℕ) (m after : Meaning) (t : Tally) (o : Option A) (x : A) → o ≡ Some x → s ≡ b → Did (option_map f) (Ok o) after (next_set limit s m)
+    → tally_all limit b m t ≡ tally_all limit b after (tally_set (f x) t)
+in_set {A = A} f limit b s m after t o x e q d =
+    tally_next f limit b s m after t (Ok (Some x)) q (subst (λ (y : Option A). Did (option_map f) (Ok y) after (next_set limit s m)) e d)
+
+pub at_end : {A : Type 0} (f : A → Header) (limit b s : ℕ) (m after : Meaning) (t : Tally) (o : Option A) → o ≡ None → s ≡ b → Did (option_map f) (Ok o) after (next_set limit s m)
+    → tally_all limit b m t ≡ t
+at_end {A = A} f limit b s m after t o e q d =
+    tally_next f limit b s m after t (Ok None) q (subst (λ (y : Option A). Did (option_map f) (Ok y) after (next_set limit s m)) e d)
