@@ -3,15 +3,15 @@
 
 mod address;
 //ARG
-//IMG
+mod image;
 //LIN
-//REF
+mod refusal;
 //REP
 mod survey;
 
 pub use address::{AddressError, parse_address};
 //pub use arguments::{Command, Request, UsageError, parse_arguments, parse_lines};
-//pub use image::Image;
-//pub use refusal::Refusal;
+pub use image::{Image, Relocated};
+pub use refusal::Refusal;
 //pub use report::{Status, report};
 pub use survey::{Oddity, Survey, survey_section};

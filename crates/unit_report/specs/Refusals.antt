@@ -1,0 +1,13 @@
+-- How a refusal is written: one sentence.
+use Rattle.std.specs.Prelude.{ℕ, List, codes}
+use Rattle.elf.specs.Texts as elf
+use Rattle.elf_relocations.specs.Texts as relocations
+use Rattle.unit_report.specs.declared.refusal.Refusal.{Refusal}
+use Rattle.unit_report.specs.declared.refusal.Refusal.TheVariants.{Elf, Relocation, NoSection, Compressed, NoMemory}
+
+abbrev pub text : Refusal → List ℕ
+text (Elf e) = elf.text e
+text (Relocation e) = relocations.text e
+text NoSection = codes "the file has no section .debug_aranges"
+text Compressed = codes "section .debug_aranges is compressed: objcopy --decompress-debug-sections undoes that"
+text NoMemory = codes "there is not enough memory for the report"
