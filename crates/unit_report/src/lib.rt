@@ -2,16 +2,16 @@
 #![tactic(auto)]
 
 mod address;
-//ARG
+mod arguments;
 mod image;
-//LIN
+mod lines;
 mod refusal;
-//REP
+mod report;
 mod survey;
 
 pub use address::{AddressError, parse_address};
-//pub use arguments::{Command, Request, UsageError, parse_arguments, parse_lines};
+pub use arguments::{Command, HELP, Request, UsageError, VERSION, parse_arguments, parse_line};
 pub use image::{Image, Relocated};
 pub use refusal::Refusal;
-//pub use report::{Status, report};
+pub use report::{Status, report};
 pub use survey::{Oddity, Survey, survey_section};

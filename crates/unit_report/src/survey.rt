@@ -56,6 +56,14 @@ pub fn survey_section<R: AddressReader>(
 }
 
 impl Survey {
+    /// How many tuples are odd.
+    pub fn spoilt_tuples(&self) -> usize {
+        self.oddities
+            .iter()
+            .filter(|oddity| matches!(oddity, Oddity::Tuple { .. }))
+            .count()
+    }
+
     // counts a set and its ranges, and notes its spoilt tuples
     fn read_set<R: AddressReader>(&mut self, header: &ArangeHeader<R>) -> Result<(), AllocError>
         requires room { self.old.ranges + length (R.Reader.means header.now.entries).rest < 2 ^ 64 }

@@ -1,0 +1,127 @@
+// The command line, and the lines of addresses that stand for its addresses where it has none.
+
+use crate::address::{AddressError, parse_address};
+use std::alloc::{AllocError, AllocFailed, Global};
+use std::fmt;
+
+/// What a command line asks for.
+#[derive(Drop)]
+pub enum Command<'a> {
+    Help,
+    Version,
+    Report(Request<'a>),
+}
+
+/// A report of a file at some addresses.
+#[derive(Drop)]
+pub struct Request<'a> {
+    pub file: &'a str,
+    /// Whether to halt at the first oddity.
+    pub strict: bool,
+    pub addresses: Vec<u64>,
+}
+
+/// Why a command line, or a line of addresses, can't be followed.
+#[derive(Clone, Copy, Debug)]
+pub enum UsageError<'a> {
+    NoFile,
+    UnknownOption(&'a str),
+    BadAddress(&'a str, AddressError),
+    NoMemory,
+}
+
+/// Writes one sentence.
+impl fmt::Display for UsageError<'_> {
+    fn fmt<W: fmt::Write>(&self, f: &mut fmt::Formatter<W>) -> fmt::Result {
+        match self {
+            UsageError::NoFile => write!(f, "no file is named: addr2unit --help tells the usage"),
+            UsageError::UnknownOption(word) => {
+                write!(
+                    f,
+                    "there is no option {word:?}: addr2unit --help tells the usage"
+                )
+            }
+            UsageError::BadAddress(word, error) => write!(f, "{word:?} {error}"),
+            UsageError::NoMemory => write!(f, "there is not enough memory for the addresses"),
+        }
+    }
+}
+
+impl From<AllocError> for UsageError<'_> {
+    fn from(_error: AllocError) -> Self {
+        UsageError::NoMemory
+    }
+}
+
+impl<T: Drop> From<AllocFailed<T>> for UsageError<'_> {
+    fn from(_refused: AllocFailed<T>) -> Self {
+        UsageError::NoMemory
+    }
+}
+
+/// Reads the words behind the program's name; the first that decides alone ends it.
+pub fn parse_arguments<'a>(
+    heap: Global,
+    words: &'a [String],
+) -> Result<Command<'a>, UsageError<'a>> {
+    let mut strict = false;
+    let mut file = None;
+    let mut addresses = Vec::new(heap);
+    for word in words {
+        let word = word.as_str();
+        match word {
+            "--help" | "-h" => return Ok(Command::Help),
+            "--version" | "-V" => return Ok(Command::Version),
+            "--strict" => strict = true,
+            _ if word.starts_with('-') => return Err(UsageError::UnknownOption(word)),
+            _ if file.is_none() => file = Some(word),
+            _ => addresses.push(address_of(word)?)?,
+        }
+    }
+    match file {
+        Some(file) => Ok(Command::Report(Request {
+            file,
+            strict,
+            addresses,
+        })),
+        None => Err(UsageError::NoFile),
+    }
+}
+
+/// The address on a line, where it is not blank.
+pub fn parse_line(line: &str) -> Result<Option<u64>, UsageError<'_>> {
+    let word = line.trim_ascii();
+    if word.is_empty() {
+        return Ok(None);
+    }
+    Ok(Some(address_of(word)?))
+}
+
+// the address that a word names, or the sentence why it names none
+fn address_of(word: &str) -> Result<u64, UsageError<'_>> {
+    match parse_address(word.as_bytes()) {
+        Ok(address) => Ok(address),
+        Err(error) => Err(UsageError::BadAddress(word, error)),
+    }
+}
+
+/// What --help prints.
+pub const HELP: &str = "\
+addr2unit tells which compilation unit holds each address of a firmware file.
+
+Usage: addr2unit [--strict] FILE [ADDRESS..]
+
+FILE is an ELF image or object with a section .debug_aranges. Each ADDRESS is
+hexadecimal, with or without 0x; where none is given, standard input has one
+to a line.
+
+  --strict       halt at the first spoilt tuple or spoilt header
+  -h, --help     print this text
+  -V, --version  print the program's version
+
+Exit status: 0 where the report is complete, 1 where the file can't be read
+or --strict halted, 2 where the command line or an address can't be read.
+";
+
+/// What --version prints.
+pub const VERSION: &str = "addr2unit 0.1.0\n";
