@@ -5,7 +5,7 @@ use std::io;
 use std::process::ExitCode;
 use std::rt::Files;
 use std::{env, fs};
-use unit_report::{Command, HELP, Request, Status, VERSION, parse_arguments, parse_line, report};
+use unit_report::{Command, HELP, Request, Status, VERSION, parse_arguments, parse_line, write_report};
 
 fn main(rt: HostRuntime) -> io::Result<ExitCode> {
     let words: Vec<String> = env::args(&rt)?.skip(1).collect(rt.alloc())?;
@@ -44,10 +44,10 @@ fn answer<R: Files + Input + Print + Eprint + AllocGlobal>(
             }
         }
     }
-    write_report(rt, &request)
+    print_report(rt, &request)
 }
 
-fn write_report<R: Files + Print + Eprint + AllocGlobal>(
+fn print_report<R: Files + Print + Eprint + AllocGlobal>(
     rt: &R,
     request: &Request,
 ) -> io::Result<Status> {
@@ -60,7 +60,7 @@ fn write_report<R: Files + Print + Eprint + AllocGlobal>(
         }
     };
     let mut out = String::new(rt.alloc());
-    match report(rt.alloc(), &bytes, &request.addresses, request.strict, &mut out) {
+    match write_report(rt.alloc(), &bytes, &request.addresses, request.strict, &mut out) {
         Ok(status) => {
             rt.print(out)?;
             Ok(status)

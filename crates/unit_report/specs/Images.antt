@@ -1,5 +1,7 @@
 -- The section .debug_aranges of a file.
-use Rattle.std.specs.Prelude.{ℕ, List, cond, Bool, Option, Some, None, Ok, Err, Result, codes, ◌==◌, bit_and}
+use Rattle.std.specs.Prelude.{ℕ, ◌^◌, List, map, cond, Bool, Option, Some, None, Ok, Err, Result, codes, ◌==◌, bit_and}
+use Rattle.readers.specs.Reading.{Meaning, plain}
+use Rattle.relocate.specs.Relocating.{by_table, layered}
 use Rattle.elf.specs.declared.error.ElfError.{ElfError}
 use Rattle.elf.specs.declared.section.Section.{Section}
 use Rattle.elf.specs.Files.{File, parsed, data_of}
@@ -16,6 +18,12 @@ pub record Image : Type 0 where
   pub section : Section
   pub bytes : List ℕ
   pub applied : List Applied
+
+-- the section as it is read: ids are places in it, and its addresses and offsets are relocated
+abbrev pub aranges_of : Image → Meaning
+aranges_of i =
+    let table = by_table (map (λ a. a.relocation) i.applied) in
+    layered (2 ^ 64) table table 0 (plain 0 i.bytes i.file.words.big)
 
 -- one result after another, up to the first refusal
 abbrev pub and_then : {A B : Type 0} → Result A Refusal → (A → Result B Refusal) → Result B Refusal

@@ -1,8 +1,9 @@
 // The section `.debug_aranges` of an ELF file, and a reader of it that applies its relocations.
-ghost use Rattle.std.specs.Prelude.{◌≡◌, ◌^◌, IfOk, vec_items};
+ghost use Rattle.std.specs.Prelude.{◌≡◌, ◌^◌, map, vec_items};
+ghost use Rattle.section_reader.specs.Means.{section_means};
+ghost use Rattle.relocate.specs.Relocating.{by_table, layered};
 ghost use Rattle.elf.specs.FileLinks.{file_is};
-ghost use Rattle.unit_report.specs.Images.{aranges_section, opened};
-ghost use Rattle.unit_report.specs.ImageLinks.{image_is, Answered};
+ghost use Rattle.unit_report.specs.Images.{aranges_section, opened, aranges_of};
 
 use crate::refusal::Refusal;
 use aranges::DebugAranges;
@@ -32,11 +33,15 @@ pub struct Image<'a> {
     /// Which sections the section's places name, and what is put there; none in a file that is linked.
     pub applied: Vec<Applied>,
     records: Vec<Relocation>,
+    ghost tabled: { vec_items records ≡ map (λ a. a.relocation) (vec_items applied) },
 }
 
 impl<'a> Image<'a> {
+    ghost use Rattle.unit_report.specs.ImageLinks.{image_is, Answered};
+
     /// Finds the section in the bytes of a file.
     pub fn open(heap: Global, bytes: &'a [u8]) -> Result<Image<'a>, Refusal>
+        ensures { Answered image_is result (opened bytes.now) }
     {
         let file = ElfFile::parse(bytes)?;
         let section = find_section(&file)?;
@@ -53,7 +58,9 @@ impl<'a> Image<'a> {
     }
 
     /// The section as it is read, ids being places in it.
-    pub fn aranges(&self) -> DebugAranges<Relocated<'_>> {
+    pub fn aranges(&self) -> DebugAranges<Relocated<'_>>
+        ensures { layered (2 ^ 64) (by_table result.section.relocate.records.now) (by_table result.section.relocate.records.now) result.section.start (section_means result.section.reader) ≡ aranges_of (image_is self.now) }
+    {
         let section = EndianSlice::new(self.bytes, 0, self.file.endian()).unwrap();
         DebugAranges::new(RelocateReader::new(
             section,

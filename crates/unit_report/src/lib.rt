@@ -13,5 +13,5 @@ pub use address::{AddressError, parse_address};
 pub use arguments::{Command, HELP, Request, UsageError, VERSION, parse_arguments, parse_line};
 pub use image::{Image, Relocated};
 pub use refusal::Refusal;
-pub use report::{Status, report};
+pub use report::{Status, write_report};
 pub use survey::{Oddity, Survey, survey_section};

@@ -1,4 +1,5 @@
 // The lines of a report, each of one fact.
+ghost use Rattle.std.specs.Prelude.{◌≤◌};
 
 use crate::image::Image;
 use crate::survey::{Oddity, Survey};
@@ -129,6 +130,9 @@ pub fn write_place(out: &mut String, name: &[u8]) -> Result<(), AllocError> {
 }
 
 /// The last line.
-pub fn write_totals(out: &mut String, found: u64, missing: u64, all: usize) -> Result<(), AllocError> {
+pub fn write_totals(out: &mut String, all: usize, found: usize) -> Result<(), AllocError>
+    requires { found ≤ all }
+{
+    let missing = all - found;
     write!(out, "total: addresses {all}, found {found}, not found {missing}\n")
 }
