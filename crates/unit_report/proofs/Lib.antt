@@ -1,1 +1,3 @@
 pub mod Tallies
+pub mod Counts
+pub mod PlacesFound

@@ -4,3 +4,6 @@ pub mod SurveyLinks
 pub mod Refusals
 pub mod Images
 pub mod ImageLinks
+pub mod Lines
+pub mod LineLinks
+pub mod Places

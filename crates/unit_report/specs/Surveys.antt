@@ -1,5 +1,5 @@
 -- A survey of a section: it takes the answers of next from every set in turn, counts the ranges, and notes what is odd.
-use Rattle.std.specs.Prelude.{ℕ, zero, suc, ◌+◌, ◌-◌, ◌*◌, ◌/◌, List, [], ◌∷◌, ◌++◌, length, Some, None, Option}
+use Rattle.std.specs.Prelude.{ℕ, zero, suc, ◌+◌, ◌-◌, ◌*◌, ◌/◌, Bool, true, false, cond, List, [], ◌∷◌, ◌++◌, length, Some, None, Option}
 use Rattle.readers.specs.Outcome.{Outcome, Fault, answer, fault, numbered}
 use Rattle.readers.specs.Reading.{Meaning, past}
 use Rattle.aranges.specs.Sets.{Header}
@@ -11,6 +11,15 @@ use Rattle.aranges.specs.Iterators.{Left, entries_of, count, next_set}
 pub data Odd : Type 0 where
   tuple : ℕ → ℕ → Fault → Odd
   header : ℕ → Fault → Odd
+
+abbrev pub is_tuple : Odd → Bool
+is_tuple (tuple p k f) = true
+is_tuple (header p f) = false
+
+-- how many of them are tuples
+abbrev pub spoilt : List Odd → ℕ
+spoilt [] = 0
+spoilt (o ∷ os) = cond (is_tuple o) (1 + spoilt os) (spoilt os)
 
 -- how many sets and ranges were read, and what was odd, in order
 pub record Tally : Type 0 where

@@ -5,6 +5,7 @@ mod address;
 mod arguments;
 mod image;
 mod lines;
+mod place;
 mod refusal;
 mod report;
 mod survey;

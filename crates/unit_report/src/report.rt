@@ -2,8 +2,8 @@
 
 use crate::image::{Image, Relocated};
 use crate::lines::{
-    Then, write_answer, write_file, write_oddity, write_place, write_section, write_survey,
-    write_totals,
+    Then, write_answer, write_file, write_oddity, write_place, write_relocated,
+    write_section, write_survey, write_totals,
 };
 use crate::refusal::Refusal;
 use crate::survey::survey_section;
@@ -46,7 +46,8 @@ pub fn write_report(
     let section = image.aranges();
     let survey = survey_section(heap, &section)?;
     write_file(out, &image.file)?;
-    write_section(out, &image)?;
+    write_section(out, &image.section)?;
+    write_relocated(out, image.file.kind(), image.applied.len())?;
     if strict {
         if let Some(oddity) = survey.oddities.first() {
             write_oddity(out, oddity, Then::Halts)?;
@@ -71,13 +72,33 @@ fn write_answers(
     let mut found = 0;
     for address in addresses {
         let answer = lookup_address(section, *address);
-        write_answer(out, *address, &answer)?;
+        write_line(image, section, *address, &answer, out)?;
         if is_found(&answer) {
             found += 1;
         }
-        out.push_str("\n")?;
     }
     write_totals(out, addresses.len(), found)?;
+    Ok(())
+}
+
+// the line of an address
+fn write_line(
+    image: &Image,
+    section: &DebugAranges<Relocated>,
+    address: u64,
+    answer: &Result<Lookup<usize>, Error>,
+    out: &mut String,
+) -> Result<(), Refusal> {
+    write_answer(out, address, answer)?;
+    if let Ok(Lookup {
+        found: Some(found), ..
+    }) = answer
+    {
+        if let Some(name) = image.section_of(section, address, found)? {
+            write_place(out, name)?;
+        }
+    }
+    out.push_str("\n")?;
     Ok(())
 }
 

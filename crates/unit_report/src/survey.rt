@@ -1,7 +1,7 @@
 // A survey of a section: how many sets and ranges it has, and what is odd in it.
 ghost use Rattle.std.specs.Prelude.{◌≡◌, ◌+◌, ◌-◌, ◌/◌, ◌^◌, ◌<◌, ◌≤◌, length, IfOk, OnOk};
 ghost use Rattle.aranges.specs.Links.{header_is};
-ghost use Rattle.unit_report.specs.Surveys.{survey_in, tally_set};
+ghost use Rattle.unit_report.specs.Surveys.{survey_in, tally_set, spoilt};
 ghost use Rattle.unit_report.specs.SurveyLinks.{survey_is};
 
 use aranges::{ArangeHeader, DebugAranges};
@@ -15,6 +15,21 @@ pub enum Oddity {
     Tuple { set: u64, tuple: u64, fault: Error },
     /// The header of a set, which ends the section.
     Header { set: u64, fault: Error },
+}
+
+impl Oddity {
+    ghost use Rattle.unit_report.specs.Surveys.{is_tuple};
+    ghost use Rattle.unit_report.specs.SurveyLinks.{odd_is};
+
+    // whether it is a tuple, and not a header
+    fn is_tuple(&self) -> bool
+        ensures { result ≡ is_tuple (odd_is self.now) }
+    {
+        match self {
+            Oddity::Tuple { .. } => true,
+            Oddity::Header { .. } => false,
+        }
+    }
 }
 
 /// What the sets of a section come to.
@@ -57,10 +72,13 @@ pub fn survey_section<R: AddressReader>(
 
 impl Survey {
     /// How many tuples are odd.
-    pub fn spoilt_tuples(&self) -> usize {
+    #[tactic(auto, using(crate::proofs::Counts::spoilt_map))]
+    pub fn spoilt_tuples(&self) -> usize
+        ensures { result ≡ spoilt (survey_is self.now).oddities }
+    {
         self.oddities
             .iter()
-            .filter(|oddity| matches!(oddity, Oddity::Tuple { .. }))
+            .filter(|oddity| oddity.is_tuple())
             .count()
     }
 
