@@ -1,3 +1,4 @@
 pub mod Tallies
 pub mod Counts
 pub mod PlacesFound
+pub mod Appends

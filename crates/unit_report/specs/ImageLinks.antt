@@ -1,5 +1,6 @@
 -- How the code's image stands for that of the definitions; want of memory may end the opening at any place.
-use Rattle.std.specs.Prelude.{◌≡◌, Ok, Err, Result, vec_items}
+use Rattle.std.specs.Prelude.{◌≡◌, ℕ, List, Ok, Err, Result, Option, option_map, vec_items}
+use Rattle.std.specs.Borrow.{Bor}
 use Rattle.elf.specs.FileLinks.{file_is}
 use Rattle.elf_relocations.specs.declared.error.RelocationError.TheVariants as relocation
 use Rattle.unit_report.specs.declared.image.Image as code
@@ -9,6 +10,11 @@ use Rattle.unit_report.specs.Images.{Image}
 
 abbrev pub image_is : code.Image → Image
 image_is i = record { file = file_is i.file; section = i.section; bytes = i.bytes.now; applied = vec_items i.applied }
+
+-- the name of a section, if one is told
+abbrev pub name_is : Result (Option (Bor (List ℕ))) Refusal → Result (Option (List ℕ)) Refusal
+name_is (Ok o) = Ok (option_map (λ x. x.now) o)
+name_is (Err e) = Err e
 
 -- a call was refused as the definition tells, if not for want of memory
 abbrev pub Refused : {A : Type 0} → Refusal → Result A Refusal → Type 0

@@ -7,3 +7,5 @@ pub mod ImageLinks
 pub mod Lines
 pub mod LineLinks
 pub mod Places
+pub mod Sections
+pub mod Reports

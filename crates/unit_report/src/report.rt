@@ -1,15 +1,19 @@
 // The report of a file.
+ghost use Rattle.std.specs.Prelude.{◌≡◌, ◌++◌, string_bytes, OnOk};
+ghost use Rattle.walk.specs.Links.{looked_is};
+ghost use Rattle.unit_report.specs.Reports.{head, odd_lines, is_range, status_code};
+ghost use Rattle.unit_report.specs.ImageLinks.{image_is};
+ghost use Rattle.unit_report.specs.SurveyLinks.{survey_is};
 
-use crate::image::{Image, Relocated};
+use crate::image::Image;
 use crate::lines::{
     Then, write_answer, write_file, write_oddity, write_place, write_relocated,
     write_section, write_survey, write_totals,
 };
 use crate::refusal::Refusal;
-use crate::survey::survey_section;
-use aranges::DebugAranges;
+use crate::survey::{Survey, survey_section};
 use readers::Error;
-use std::alloc::Global;
+use std::alloc::{AllocError, Global};
 use walk::{Lookup, lookup_address};
 
 /// What the program's end says.
@@ -25,7 +29,9 @@ pub enum Status {
 
 impl Status {
     /// The number that the program ends with.
-    pub fn code(self) -> u8 {
+    pub fn code(self) -> u8
+        ensures { result ≡ status_code self }
+    {
         match self {
             Status::Complete => 0,
             Status::Failed => 1,
@@ -41,38 +47,65 @@ pub fn write_report(
     addresses: &[u64],
     strict: bool,
     out: &mut String,
-) -> Result<Status, Refusal> {
+) -> Result<Status, Refusal>
+{
     let image = Image::open(heap, bytes)?;
-    let section = image.aranges();
-    let survey = survey_section(heap, &section)?;
+    write_image(heap, &image, addresses, strict, out)
+}
+
+// the report of a file that was opened
+fn write_image(
+    heap: Global,
+    image: &Image,
+    addresses: &[u64],
+    strict: bool,
+    out: &mut String,
+) -> Result<Status, Refusal>
+{
+    let survey = survey_section(heap, &image.aranges())?;
+    write_head(image, out)?;
+    match survey.oddities.first() {
+        Some(oddity) if strict => {
+            write_oddity(out, oddity, Then::Halts)?;
+            Ok(Status::Failed)
+        }
+        _ => {
+            write_oddities(&survey, out)?;
+            write_survey(out, &survey)?;
+            write_answers(image, addresses, out)?;
+            Ok(Status::Complete)
+        }
+    }
+}
+
+// what the file and the section are
+fn write_head(image: &Image, out: &mut String) -> Result<(), AllocError>
+    ensures { OnOk result (string_bytes out.new ≡ string_bytes out.old ++ head (image_is image.now)) }
+{
     write_file(out, &image.file)?;
     write_section(out, &image.section)?;
     write_relocated(out, image.file.kind(), image.applied.len())?;
-    if strict {
-        if let Some(oddity) = survey.oddities.first() {
-            write_oddity(out, oddity, Then::Halts)?;
-            return Ok(Status::Failed);
-        }
-    }
+    Ok(())
+}
+
+// a line for each oddity
+fn write_oddities(survey: &Survey, out: &mut String) -> Result<(), AllocError>
+    ensures { OnOk result (string_bytes out.new ≡ string_bytes out.old ++ odd_lines (survey_is survey.now).oddities) }
+{
     for oddity in &survey.oddities {
         write_oddity(out, oddity, Then::GoesOn)?;
     }
-    write_survey(out, &survey)?;
-    write_answers(&image, &section, addresses, out)?;
-    Ok(Status::Complete)
+    Ok(())
 }
 
 // a line for each address, and the totals
-fn write_answers(
-    image: &Image,
-    section: &DebugAranges<Relocated>,
-    addresses: &[u64],
-    out: &mut String,
-) -> Result<(), Refusal> {
+fn write_answers(image: &Image, addresses: &[u64], out: &mut String) -> Result<(), Refusal>
+{
+    let section = image.aranges();
     let mut found = 0;
     for address in addresses {
-        let answer = lookup_address(section, *address);
-        write_line(image, section, *address, &answer, out)?;
+        let answer = lookup_address(&section, *address);
+        write_line(image, *address, &answer, out)?;
         if is_found(&answer) {
             found += 1;
         }
@@ -84,17 +117,17 @@ fn write_answers(
 // the line of an address
 fn write_line(
     image: &Image,
-    section: &DebugAranges<Relocated>,
     address: u64,
     answer: &Result<Lookup<usize>, Error>,
     out: &mut String,
-) -> Result<(), Refusal> {
+) -> Result<(), Refusal>
+{
     write_answer(out, address, answer)?;
     if let Ok(Lookup {
         found: Some(found), ..
     }) = answer
     {
-        if let Some(name) = image.section_of(section, address, found)? {
+        if let Some(name) = image.section_of(address, found.set.0)? {
             write_place(out, name)?;
         }
     }
@@ -102,7 +135,10 @@ fn write_line(
     Ok(())
 }
 
-fn is_found(answer: &Result<Lookup<usize>, Error>) -> bool {
+// whether a unit holds the address
+fn is_found(answer: &Result<Lookup<usize>, Error>) -> bool
+    ensures { result ≡ is_range (looked_is (λ x. x) answer.now) }
+{
     match answer {
         Ok(lookup) => lookup.found.is_some(),
         Err(_) => false,
