@@ -2,3 +2,4 @@ pub mod Tallies
 pub mod Counts
 pub mod PlacesFound
 pub mod Appends
+pub mod Answered

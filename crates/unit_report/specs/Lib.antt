@@ -9,3 +9,4 @@ pub mod LineLinks
 pub mod Places
 pub mod Sections
 pub mod Reports
+pub mod ReportLinks

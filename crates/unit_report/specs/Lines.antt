@@ -1,5 +1,5 @@
 -- The lines of a report.
-use Rattle.std.specs.Prelude.{ℕ, ◌-◌, Bool, true, false, cond, List, [], ◌∷◌, ◌++◌, length, Option, Some, None, codes, decimal, ◌==◌}
+use Rattle.std.specs.Prelude.{ℕ, ◌-◌, Bool, true, false, cond, List, [], ◌∷◌, ◌++◌, length, Option, Some, None, codes, decimal, ◌==◌, map, nat_lt, ◌&&◌}
 use Rattle.std.specs.Fmt.{digits}
 use Rattle.readers.specs.Names.{fault_text}
 use Rattle.aranges.specs.Tuples.{Entry}
@@ -76,6 +76,15 @@ answer_text a (range e info place passed) =
     ++ (codes ", set " ++ (hex place ++ (codes ", tuples passed " ++ decimal passed)))))))))
 answer_text a (missing passed) = hex a ++ (codes ": no unit, tuples passed " ++ decimal passed)
 answer_text a (looked.spoilt f) = hex a ++ (codes ": no unit before the spoilt header, " ++ fault_text f)
+
+-- a byte of a name as it is shown: only those from 33 to 126 are, and a question mark stands for another one
+abbrev pub shown : ℕ → ℕ
+shown b = cond (nat_lt 32 b && nat_lt b 127) b 63
+
+-- the section in which a range lies, where it is known
+abbrev pub place_text : Option (List ℕ) → List ℕ
+place_text (Some name) = codes ", in " ++ map shown name
+place_text None = []
 
 -- the last line: how many addresses there are, and how many of them a unit holds
 abbrev pub total_line : ℕ → ℕ → List ℕ

@@ -1,10 +1,10 @@
 // The lines of a report, each of one fact.
-ghost use Rattle.std.specs.Prelude.{◌≡◌, ◌≤◌, ◌++◌, string_bytes, OnOk, Some, Ok};
+ghost use Rattle.std.specs.Prelude.{◌≡◌, ◌≤◌, ◌++◌, string_bytes, OnOk, Some, Ok, map, option_map};
 ghost use Rattle.elf.specs.FileLinks.{file_is};
 ghost use Rattle.elf.specs.Links.{word_of};
 ghost use Rattle.readers.specs.Links.{is_big};
 ghost use Rattle.walk.specs.Links.{looked_is};
-ghost use Rattle.unit_report.specs.Lines.{class_text, order_text, kind_text, machine_text, file_line, section_line, relocated_line, odd_line, read_line, answer_text, total_line};
+ghost use Rattle.unit_report.specs.Lines.{class_text, order_text, kind_text, machine_text, file_line, section_line, relocated_line, odd_line, read_line, answer_text, place_text, shown, total_line};
 ghost use Rattle.unit_report.specs.SurveyLinks.{odd_is, survey_is};
 ghost use Rattle.unit_report.specs.LineLinks.{halts};
 
@@ -172,22 +172,32 @@ fn write_found(
     )
 }
 
-/// The section in which a range lies; a byte that would not show stands as its number.
-pub fn write_place(out: &mut String, name: &[u8]) -> Result<(), AllocError>
+/// The section in which a range lies, where it is known; a byte that would not show stands as a question mark.
+pub fn write_place(out: &mut String, name: Option<&[u8]>) -> Result<(), AllocError>
+    ensures { OnOk result (string_bytes out.new ≡ string_bytes out.old ++ place_text (option_map (λ x. x.now) name.entry)) }
 {
-    out.push_str(", in ")?;
+    match name {
+        Some(name) => {
+            out.push_str(", in ")?;
+            write_shown(out, name)
+        }
+        None => Ok(()),
+    }
+}
+
+fn write_shown(out: &mut String, name: &[u8]) -> Result<(), AllocError>
+    ensures { OnOk result (string_bytes out.new ≡ string_bytes out.old ++ map shown name.now) }
+{
     for byte in name {
-        write_byte(out, *byte)?;
+        out.push(shown(*byte) as char)?;
     }
     Ok(())
 }
 
-fn write_byte(out: &mut String, byte: u8) -> Result<(), AllocError> {
-    if byte.is_ascii_graphic() && byte != b'\\' {
-        out.push(byte as char)
-    } else {
-        write!(out, "\\x{byte:02x}")
-    }
+fn shown(byte: u8) -> u8
+    ensures { result ≡ shown byte }
+{
+    if byte > 0x20 && byte < 0x7f { byte } else { b'?' }
 }
 
 /// The last line.

@@ -1,9 +1,10 @@
 // The report of a file.
-ghost use Rattle.std.specs.Prelude.{◌≡◌, ◌++◌, string_bytes, OnOk};
+ghost use Rattle.std.specs.Prelude.{◌≡◌, ◌++◌, string_bytes, OnOk, option_map};
 ghost use Rattle.walk.specs.Links.{looked_is};
-ghost use Rattle.unit_report.specs.Reports.{head, odd_lines, is_range, status_code};
-ghost use Rattle.unit_report.specs.ImageLinks.{image_is};
-ghost use Rattle.unit_report.specs.SurveyLinks.{survey_is};
+ghost use Rattle.unit_report.specs.Reports.{head, odd_lines, is_range, status_code, line_by, range_section, answers, halting, report_in, report_of};
+ghost use Rattle.unit_report.specs.ImageLinks.{image_is, name_is};
+ghost use Rattle.unit_report.specs.ReportLinks.{Wrote, Reported};
+ghost use Rattle.unit_report.specs.SurveyLinks.{odd_is, survey_is};
 
 use crate::image::Image;
 use crate::lines::{
@@ -11,7 +12,7 @@ use crate::lines::{
     write_section, write_survey, write_totals,
 };
 use crate::refusal::Refusal;
-use crate::survey::{Survey, survey_section};
+use crate::survey::{Oddity, Survey, survey_section};
 use readers::Error;
 use std::alloc::{AllocError, Global};
 use walk::{Lookup, lookup_address};
@@ -48,6 +49,7 @@ pub fn write_report(
     strict: bool,
     out: &mut String,
 ) -> Result<Status, Refusal>
+    ensures { Reported result (string_bytes out.old) (string_bytes out.new) (report_of bytes.now strict addresses.now) }
 {
     let image = Image::open(heap, bytes)?;
     write_image(heap, &image, addresses, strict, out)
@@ -61,20 +63,33 @@ fn write_image(
     strict: bool,
     out: &mut String,
 ) -> Result<Status, Refusal>
+    ensures { Reported result (string_bytes out.old) (string_bytes out.new) (report_in strict addresses.now (image_is image.now)) }
 {
     let survey = survey_section(heap, &image.aranges())?;
     write_head(image, out)?;
-    match survey.oddities.first() {
-        Some(oddity) if strict => {
-            write_oddity(out, oddity, Then::Halts)?;
+    match halting(&survey, strict) {
+        Some(oddity) => {
+            write_oddity(out, &oddity, Then::Halts)?;
             Ok(Status::Failed)
         }
-        _ => {
+        None => {
             write_oddities(&survey, out)?;
             write_survey(out, &survey)?;
             write_answers(image, addresses, out)?;
             Ok(Status::Complete)
         }
+    }
+}
+
+// the oddity at which the report halts
+#[tactic(auto, using(crate::proofs::Answered::first_map))]
+fn halting(survey: &Survey, strict: bool) -> Option<Oddity>
+    ensures { option_map odd_is result ≡ halting strict (survey_is survey.now).oddities }
+{
+    if strict {
+        survey.oddities.first().copied()
+    } else {
+        None
     }
 }
 
@@ -100,6 +115,7 @@ fn write_oddities(survey: &Survey, out: &mut String) -> Result<(), AllocError>
 
 // a line for each address, and the totals
 fn write_answers(image: &Image, addresses: &[u64], out: &mut String) -> Result<(), Refusal>
+    ensures { Wrote result (string_bytes out.old) (string_bytes out.new) (answers (image_is image.now) addresses.now) }
 {
     let section = image.aranges();
     let mut found = 0;
@@ -121,18 +137,30 @@ fn write_line(
     answer: &Result<Lookup<usize>, Error>,
     out: &mut String,
 ) -> Result<(), Refusal>
+    ensures { Wrote result (string_bytes out.old) (string_bytes out.new) (line_by (image_is image.now) address (looked_is (λ x. x) answer.now)) }
 {
+    let name = range_section(image, address, answer)?;
     write_answer(out, address, answer)?;
-    if let Ok(Lookup {
-        found: Some(found), ..
-    }) = answer
-    {
-        if let Some(name) = image.section_of(address, found.set.0)? {
-            write_place(out, name)?;
-        }
-    }
+    write_place(out, name)?;
     out.push_str("\n")?;
     Ok(())
+}
+
+// the name of the section of the range that an answer tells
+fn range_section<'a>(
+    image: &Image<'a>,
+    address: u64,
+    answer: &Result<Lookup<usize>, Error>,
+) -> Result<Option<&'a [u8]>, Refusal>
+    ensures { name_is result ≡ range_section (image_is image.now) address (looked_is (λ x. x) answer.now) }
+{
+    match answer {
+        Ok(lookup) => match lookup.found {
+            Some(found) => image.section_of(address, found.set.0),
+            None => Ok(None),
+        },
+        Err(_) => Ok(None),
+    }
 }
 
 // whether a unit holds the address
