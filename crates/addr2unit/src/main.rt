@@ -1,11 +1,12 @@
 // addr2unit: tells which compilation unit holds each address of a firmware file.
 #![tactic(auto)]
 
-use std::io;
 use std::process::ExitCode;
 use std::rt::Files;
-use std::{env, fs};
-use unit_report::{Command, HELP, Request, Status, VERSION, parse_arguments, parse_line, write_report};
+use std::{env, fs, io};
+use unit_report::{
+    Command, HELP, Request, Status, VERSION, parse_arguments, parse_line, write_report,
+};
 
 fn main(rt: HostRuntime) -> io::Result<ExitCode> {
     let words: Vec<String> = env::args(&rt)?.skip(1).collect(rt.alloc())?;
@@ -60,7 +61,13 @@ fn print_report<R: Files + Print + Eprint + AllocGlobal>(
         }
     };
     let mut out = String::new(rt.alloc());
-    match write_report(rt.alloc(), &bytes, &request.addresses, request.strict, &mut out) {
+    match write_report(
+        rt.alloc(),
+        &bytes,
+        &request.addresses,
+        request.strict,
+        &mut out,
+    ) {
         Ok(status) => {
             rt.print(out)?;
             Ok(status)

@@ -1,9 +1,8 @@
 -- The lines of addresses one by one.
-use Rattle.std.proofs.Common.{◌≡◌, ℕ, ◌^◌, Bool, true, Option, Some, None, map, option_map, slice_get, ◌+◌, ◌<◌, ◌≤◌, List, [], ◌∷◌, ◌++◌, length, get_or, take, drop, Ok, Err, Result, sym, refl, ap, ◌∙◌, subst, arith, append_assoc, append-nil}
+use Rattle.std.proofs.Common.{◌≡◌, ℕ, ◌^◌, Bool, true, Option, Some, None, map, option_map, slice_get, ◌+◌, ◌<◌, ◌≤◌, List, [], ◌∷◌, ◌++◌, length, get_or, drop, Ok, Err, Result, sym, refl, ap, ◌∙◌, append_assoc, append-nil}
 use Rattle.std.proofs.lemmas.List.{drop_more, drop_all}
 use Rattle.unit_report.specs.declared.refusal.Refusal.{Refusal}
 use Rattle.unit_report.specs.declared.refusal.Refusal.TheVariants.{Elf, Relocation, NoSection, Compressed, NoMemory}
-use Rattle.elf_relocations.specs.declared.error.RelocationError.{RelocationError}
 use Rattle.elf_relocations.specs.declared.error.RelocationError.TheVariants as relocation
 use Rattle.unit_report.specs.Images.{Image, and_then, aranges_of}
 use Rattle.unit_report.specs.ImageLinks.{Refused}
@@ -49,9 +48,9 @@ pub answered_refused : (i : Image) (ws : List ℕ) (k a : ℕ) (before after : L
     → Err x ≡ line_by i a (looked_up i a) → AnsweredSoFar i ws k before after → Err x ≡ lines_of i ws
 answered_refused i ws k a before after x h e q so =
     sym (
-      so.onward
-      ∙ ap (λ (xs : List ℕ). and_then (lines_of i xs) (λ ts. Ok (so.text ++ ts))) (drop_more ws k 0 h ∙ ap (λ (y : ℕ). y ∷ drop (k + 1) ws) (sym e))
-      ∙ ap (λ (r : Result (List ℕ) Refusal). and_then (and_then r (λ t. and_then (lines_of i (drop (k + 1) ws)) (λ ts. Ok (t ++ ts)))) (λ ts. Ok (so.text ++ ts))) (sym q)
+    so.onward
+    ∙ ap (λ (xs : List ℕ). and_then (lines_of i xs) (λ ts. Ok (so.text ++ ts))) (drop_more ws k 0 h ∙ ap (λ (y : ℕ). y ∷ drop (k + 1) ws) (sym e))
+    ∙ ap (λ (r : Result (List ℕ) Refusal). and_then (and_then r (λ t. and_then (lines_of i (drop (k + 1) ws)) (λ ts. Ok (t ++ ts)))) (λ ts. Ok (so.text ++ ts))) (sym q)
     )
 
 -- at the end what was written is the whole

@@ -1,5 +1,5 @@
 -- How many odd tuples a list has that was made of another one.
-use Rattle.std.proofs.Common.{◌≡◌, ℕ, List, map, refl}
+use Rattle.std.proofs.Common.{◌≡◌, List, map, refl}
 use Rattle.std.proofs.lemmas.List.Recursion.{is_count_by}
 use Rattle.std.specs.List.{count_by}
 use Rattle.unit_report.specs.Surveys.{Odd, is_tuple, spoilt}

@@ -1,5 +1,5 @@
 -- The place of a tuple, from what next answers.
-use Rattle.std.proofs.Common.{◌≡◌, ℕ, zero, suc, ◌+◌, ◌*◌, ◌<◌, ◌≤◌, cond, length, Some, None, Ok, Err, Option, Result, sym, refl, ap, subst, arith, length-drop}
+use Rattle.std.proofs.Common.{◌≡◌, ℕ, zero, suc, ◌*◌, ◌<◌, ◌≤◌, cond, length, Some, None, Ok, Err, Option, Result, sym, refl, ap, subst, arith, length-drop}
 use native.Mathlib.Nat.{zero-div}
 use Rattle.readers.specs.declared.error.Error.{Error}
 use Rattle.readers.specs.Reading.{Meaning, past, emptied}

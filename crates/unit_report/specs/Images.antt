@@ -1,5 +1,5 @@
 -- The section .debug_aranges of a file.
-use Rattle.std.specs.Prelude.{ℕ, ◌^◌, List, map, cond, Bool, Option, Some, None, Ok, Err, Result, codes, ◌==◌, bit_and}
+use Rattle.std.specs.Prelude.{ℕ, ◌^◌, List, map, cond, Option, Some, None, Ok, Err, Result, codes, ◌==◌, bit_and}
 use Rattle.readers.specs.Reading.{Meaning, plain}
 use Rattle.relocate.specs.Relocating.{by_table, layered}
 use Rattle.elf.specs.declared.error.ElfError.{ElfError}

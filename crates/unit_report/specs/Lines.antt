@@ -1,8 +1,7 @@
 -- The lines of a report.
-use Rattle.std.specs.Prelude.{ℕ, ◌-◌, Bool, true, false, cond, List, [], ◌∷◌, ◌++◌, length, Option, Some, None, codes, decimal, ◌==◌, map, nat_lt, ◌&&◌}
+use Rattle.std.specs.Prelude.{ℕ, ◌-◌, Bool, false, cond, List, [], ◌++◌, Option, Some, None, codes, decimal, ◌==◌, map, nat_lt, ◌&&◌}
 use Rattle.std.specs.Fmt.{digits}
 use Rattle.readers.specs.Names.{fault_text}
-use Rattle.aranges.specs.Tuples.{Entry}
 use Rattle.walk.specs.Events as looked
 use Rattle.walk.specs.Events.{Looked, range, missing}
 use Rattle.elf.specs.declared.file.FileKind.{FileKind}

@@ -1,5 +1,5 @@
 -- The report of a file, and the status that the program ends with.
-use Rattle.std.specs.Prelude.{◌≡◌, ℕ, ◌^◌, Bool, true, false, List, [], ◌∷◌, ◌++◌, length, Option, Some, None, Ok, Err, Result, codes, count_by, cond, slice_get}
+use Rattle.std.specs.Prelude.{ℕ, ◌^◌, Bool, true, false, List, [], ◌∷◌, ◌++◌, length, Option, Some, None, Ok, Result, codes, count_by, cond, slice_get}
 use Rattle.walk.specs.Events as looked
 use Rattle.walk.specs.Events.{Looked, range, missing}
 use Rattle.walk.specs.Lookups.{look_in}

@@ -1,5 +1,5 @@
 -- The section in which a range of an object lies.
-use Rattle.std.specs.Prelude.{ℕ, ◌-◌, ◌*◌, ◌^◌, List, Option, Some, None, Ok, Err, Result, find, ◌==◌}
+use Rattle.std.specs.Prelude.{ℕ, ◌-◌, ◌*◌, ◌^◌, List, Option, Some, None, Ok, Result, find, ◌==◌}
 use Rattle.readers.specs.Outcome.{Outcome, answer, fault}
 use Rattle.aranges.specs.Sets.{Header, header_past}
 use Rattle.aranges.specs.Iterators.{entries_of}

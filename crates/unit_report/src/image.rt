@@ -62,10 +62,7 @@ impl<'a> Image<'a> {
         ensures { layered (2 ^ 64) (by_table result.section.relocate.records.now) (by_table result.section.relocate.records.now) result.section.start (section_means result.section.reader) ≡ aranges_of (image_is self.now) }
     {
         let section = EndianSlice::new(self.bytes, 0, self.file.endian()).unwrap();
-        DebugAranges::new(RelocateReader::new(
-            section,
-            RelocationTable::new(&self.records),
-        ))
+        DebugAranges::new(RelocateReader::new(section, RelocationTable::new(&self.records)))
     }
 }
 

@@ -91,7 +91,10 @@ pub fn write_section(out: &mut String, section: &Section) -> Result<(), AllocErr
 {
     let size = section.size;
     let offset = section.offset;
-    write!(out, "section: .debug_aranges, {size} bytes at 0x{offset:x}\n")
+    write!(
+        out,
+        "section: .debug_aranges, {size} bytes at 0x{offset:x}\n"
+    )
 }
 
 /// How many places of the section are relocated, in a file that is not linked.
@@ -110,13 +113,22 @@ pub fn write_oddity(out: &mut String, oddity: &Oddity, then: Then) -> Result<(),
 {
     match (*oddity, then) {
         (Oddity::Tuple { set, tuple, fault }, Then::GoesOn) => {
-            write!(out, "spoilt tuple: set 0x{set:x}, tuple {tuple}: {fault}; passed\n")
+            write!(
+                out,
+                "spoilt tuple: set 0x{set:x}, tuple {tuple}: {fault}; passed\n"
+            )
         }
         (Oddity::Tuple { set, tuple, fault }, Then::Halts) => {
-            write!(out, "spoilt tuple: set 0x{set:x}, tuple {tuple}: {fault}; halted\n")
+            write!(
+                out,
+                "spoilt tuple: set 0x{set:x}, tuple {tuple}: {fault}; halted\n"
+            )
         }
         (Oddity::Header { set, fault }, Then::GoesOn) => {
-            write!(out, "spoilt header: set 0x{set:x}: {fault}; the section ends here\n")
+            write!(
+                out,
+                "spoilt header: set 0x{set:x}: {fault}; the section ends here\n"
+            )
         }
         (Oddity::Header { set, fault }, Then::Halts) => {
             write!(out, "spoilt header: set 0x{set:x}: {fault}; halted\n")
@@ -131,7 +143,10 @@ pub fn write_survey(out: &mut String, survey: &Survey) -> Result<(), AllocError>
     let sets = survey.sets;
     let ranges = survey.ranges;
     let spoilt = survey.spoilt_tuples();
-    write!(out, "read: sets {sets}, ranges {ranges}, spoilt tuples {spoilt}\n")
+    write!(
+        out,
+        "read: sets {sets}, ranges {ranges}, spoilt tuples {spoilt}\n"
+    )
 }
 
 /// The answer at an address, without the section of its range and the end of the line.
@@ -150,7 +165,10 @@ pub fn write_answer(
                 None => write!(out, "0x{address:x}: no unit, tuples passed {passed}"),
             }
         }
-        Err(fault) => write!(out, "0x{address:x}: no unit before the spoilt header, {fault}"),
+        Err(fault) => write!(
+            out,
+            "0x{address:x}: no unit before the spoilt header, {fault}"
+        ),
     }
 }
 
@@ -197,7 +215,11 @@ fn write_shown(out: &mut String, name: &[u8]) -> Result<(), AllocError>
 fn shown(byte: u8) -> u8
     ensures { result ≡ shown byte }
 {
-    if byte > 0x20 && byte < 0x7f { byte } else { b'?' }
+    if byte > 0x20 && byte < 0x7f {
+        byte
+    } else {
+        b'?'
+    }
 }
 
 /// The last line.
@@ -206,5 +228,8 @@ pub fn write_totals(out: &mut String, all: usize, found: usize) -> Result<(), Al
     ensures { OnOk result (string_bytes out.new ≡ string_bytes out.old ++ total_line all found) }
 {
     let missing = all - found;
-    write!(out, "total: addresses {all}, found {found}, not found {missing}\n")
+    write!(
+        out,
+        "total: addresses {all}, found {found}, not found {missing}\n"
+    )
 }

@@ -8,8 +8,8 @@ ghost use Rattle.unit_report.specs.SurveyLinks.{odd_is, survey_is};
 
 use crate::image::Image;
 use crate::lines::{
-    Then, write_answer, write_file, write_oddity, write_place, write_relocated,
-    write_section, write_survey, write_totals,
+    Then, write_answer, write_file, write_oddity, write_place, write_relocated, write_section,
+    write_survey, write_totals,
 };
 use crate::refusal::Refusal;
 use crate::survey::{Oddity, Survey, survey_section};

@@ -1,4 +1,4 @@
-use Rattle.std.proofs.Common.{ℕ, Bool, cond, Some, None, Err, Option, sym, ap, ◌∙◌}
+use Rattle.std.proofs.Common.{ℕ, Bool, cond, Some, None, Err, sym, ap, ◌∙◌}
 use Rattle.aranges.specs.Links.{entries_is}
 use Rattle.walk.proofs.Seeks.{held, not_held}
 use Rattle.unit_report.specs.Places.{place_on}

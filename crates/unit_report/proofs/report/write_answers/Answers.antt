@@ -1,5 +1,4 @@
-use Rattle.std.proofs.Common.{◌≡◌, ℕ, ◌+◌, ◌^◌, ◌<◌, ◌≤◌, Bool, true, false, take, length, get_or, string_bytes, arith, sym, ap, ◌∙◌, refl}
-use Rattle.std.specs.List.{count_by}
+use Rattle.std.proofs.Common.{◌≡◌, ℕ, ◌+◌, ◌^◌, ◌<◌, true, false, length, get_or, string_bytes, arith, sym, ap, ◌∙◌, refl}
 use Rattle.std.proofs.lemmas.List.Sums.{count_by_more_yes, count_by_more_no}
 use Rattle.readers.specs.Reading.{Meaning}
 use Rattle.walk.specs.Events.{Looked}
@@ -27,15 +26,15 @@ loop-address-preserved c =
     (t.1 ∙ ap (λ (l : Looked). line_by i a l) e) t.2 c.loop-address.invariant.2 in
     elim c.if-is_found.branch [
       | then-is_found w ↦
-        let p : is_held i a ≡ true = sym f ∙ w.if-is_found.true in (
-          omega arith,
-          w.found-is ∙ ap (λ (n : ℕ). n + 1) c.loop-address.invariant.1 ∙ sym (count_by_more_yes (is_held i) xs k 0 h p),
-          so,
-        )
+          let p : is_held i a ≡ true = sym f ∙ w.if-is_found.true in (
+            omega arith,
+            w.found-is ∙ ap (λ (n : ℕ). n + 1) c.loop-address.invariant.1 ∙ sym (count_by_more_yes (is_held i) xs k 0 h p),
+            so,
+          )
       | else-is_found w ↦
-        let p : is_held i a ≡ false = sym f ∙ w.if-is_found.false in (
-          omega arith,
-          w.found-is ∙ c.loop-address.invariant.1 ∙ sym (count_by_more_no (is_held i) xs k 0 h p),
-          so,
-        )
+          let p : is_held i a ≡ false = sym f ∙ w.if-is_found.false in (
+            omega arith,
+            w.found-is ∙ c.loop-address.invariant.1 ∙ sym (count_by_more_no (is_held i) xs k 0 h p),
+            so,
+          )
     ]

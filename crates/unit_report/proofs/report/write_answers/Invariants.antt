@@ -1,8 +1,7 @@
-use Rattle.std.proofs.Common.{◌≡◌, ℕ, List, ◌++◌, ◌≤◌, take, drop, Ok, string_bytes}
+use Rattle.std.proofs.Common.{◌≡◌, ◌≤◌, take, string_bytes}
 use Rattle.std.specs.List.{count_by}
-use Rattle.unit_report.specs.Images.{and_then}
 use Rattle.unit_report.specs.ImageLinks.{image_is}
-use Rattle.unit_report.specs.Reports.{lines_of, is_held}
+use Rattle.unit_report.specs.Reports.{is_held}
 use Rattle.unit_report.proofs.Answered.{AnsweredSoFar}
 use Rattle.unit_report.proofs.report.write_answers.Given as goal
 

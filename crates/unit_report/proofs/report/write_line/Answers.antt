@@ -1,4 +1,4 @@
-use Rattle.std.proofs.Common.{rules, ◌≡◌, ◌++◌, ℕ, List, Option, Some, None, Ok, Err, Result, string_bytes, codes, option_map, ap, ◌∙◌, refl}
+use Rattle.std.proofs.Common.{rules, ℕ, List, Option, Ok, Result, string_bytes, codes, option_map, ap}
 use Rattle.walk.specs.Links.{looked_is}
 use Rattle.unit_report.specs.declared.refusal.Refusal.{Refusal}
 use Rattle.unit_report.specs.Images.{and_then}
@@ -27,6 +27,6 @@ returns c =
       whole_line a l name,
       ap (λ (r : Result (Option (List ℕ)) Refusal). and_then r (λ n. Ok (whole_line a l n))) c.in_ok-name.ensures,
       three (string_bytes c.args.out.now) (answer_text a l) (place_text name) (codes "\n")
-      (string_bytes c.write_answer.new.out) (string_bytes c.write_place.new.out) (string_bytes c.push_str.new.self)
-      c.in_ok-write_answer.ensures c.in_ok-write_place.ensures c.in_ok-push_str.ensures.bytes,
+          (string_bytes c.write_answer.new.out) (string_bytes c.write_place.new.out) (string_bytes c.push_str.new.self)
+          c.in_ok-write_answer.ensures c.in_ok-write_place.ensures c.in_ok-push_str.ensures.bytes,
     )
