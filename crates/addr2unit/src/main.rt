@@ -5,12 +5,12 @@ use std::process::ExitCode;
 use std::rt::Files;
 use std::{env, fs, io};
 use unit_report::{
-    Command, HELP, Request, Status, VERSION, parse_arguments, parse_line, write_report,
+    Command, HELP, Request, Status, VERSION, parse_line, write_report,
 };
 
 fn main(rt: HostRuntime) -> io::Result<ExitCode> {
     let words: Vec<String> = env::args(&rt)?.skip(1).collect(rt.alloc())?;
-    let status = match parse_arguments(rt.alloc(), &words) {
+    let status = match Command::parse(rt.alloc(), &words) {
         Ok(Command::Help) => say(&rt, HELP)?,
         Ok(Command::Version) => say(&rt, VERSION)?,
         Ok(Command::Report(request)) => answer(&rt, request)?,

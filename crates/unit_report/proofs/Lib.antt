@@ -3,3 +3,4 @@ pub mod Counts
 pub mod PlacesFound
 pub mod Appends
 pub mod Answered
+pub mod Wordwise

@@ -10,3 +10,6 @@ pub mod Places
 pub mod Sections
 pub mod Reports
 pub mod ReportLinks
+pub mod Words
+pub mod Arguments
+pub mod ArgumentLinks

@@ -1,4 +1,8 @@
 // The command line, and the lines of addresses that stand for its addresses where it has none.
+ghost use Rattle.std.specs.Prelude.{◌≡◌, map, string_bytes};
+ghost use Rattle.unit_report.specs.declared.arguments.UsageError.TheVariants.{NoMemory};
+ghost use Rattle.unit_report.specs.Words.{word_of};
+ghost use Rattle.unit_report.specs.ArgumentLinks.{Named};
 
 use crate::address::{AddressError, parse_address};
 use std::alloc::{AllocError, AllocFailed, Global};
@@ -48,43 +52,82 @@ impl fmt::Display for UsageError<'_> {
 }
 
 impl From<AllocError> for UsageError<'_> {
+    ghost from_gives = { λ _ r. r ≡ NoMemory };
+
     fn from(_error: AllocError) -> Self {
         UsageError::NoMemory
     }
 }
 
 impl<T: Drop> From<AllocFailed<T>> for UsageError<'_> {
+    ghost from_gives = { λ _ r. r ≡ NoMemory };
+
     fn from(_refused: AllocFailed<T>) -> Self {
         UsageError::NoMemory
     }
 }
 
-/// Reads the words behind the program's name; the first that decides alone ends it.
-pub fn parse_arguments<'a>(
-    heap: Global,
-    words: &'a [String],
-) -> Result<Command<'a>, UsageError<'a>> {
-    let mut strict = false;
-    let mut file = None;
-    let mut addresses = Vec::new(heap);
-    for word in words {
-        let word = word.as_str();
-        match word {
-            "--help" | "-h" => return Ok(Command::Help),
-            "--version" | "-V" => return Ok(Command::Version),
-            "--strict" => strict = true,
-            _ if word.starts_with('-') => return Err(UsageError::UnknownOption(word)),
-            _ if file.is_none() => file = Some(word),
-            _ => addresses.push(address_of(word)?)?,
+// what a word of the command line is for
+#[derive(Clone, Copy, PartialEq, Eq, Debug)]
+enum Word {
+    Help,
+    Version,
+    Strict,
+    UnknownOption,
+    /// The file, or an address.
+    Plain,
+}
+
+impl Word {
+    fn of(word: &str) -> Word
+        ensures { result ≡ word_of word.now }
+    {
+        if word == "--help" || word == "-h" {
+            return Word::Help;
+        }
+        if word == "--version" || word == "-V" {
+            return Word::Version;
+        }
+        if word == "--strict" {
+            return Word::Strict;
+        }
+        match word.as_bytes() {
+            [b'-', ..] => Word::UnknownOption,
+            _ => Word::Plain,
         }
     }
-    match file {
-        Some(file) => Ok(Command::Report(Request {
-            file,
-            strict,
-            addresses,
-        })),
-        None => Err(UsageError::NoFile),
+}
+
+impl<'a> Command<'a> {
+    ghost use Rattle.unit_report.specs.Arguments.{arguments, no_words};
+    ghost use Rattle.unit_report.specs.ArgumentLinks.{Parsed};
+
+    /// Reads the words behind the program's name; the first that decides alone ends it.
+    pub fn parse(heap: Global, words: &'a [String]) -> Result<Command<'a>, UsageError<'a>>
+        ensures { Parsed result (arguments no_words (map string_bytes words.now)) }
+    {
+        let mut strict = false;
+        let mut file = None;
+        let mut addresses = Vec::new(heap);
+        for word in words {
+            let word = word.as_str();
+            match Word::of(word) {
+                Word::Help => return Ok(Command::Help),
+                Word::Version => return Ok(Command::Version),
+                Word::Strict => strict = true,
+                Word::UnknownOption => return Err(UsageError::UnknownOption(word)),
+                Word::Plain if file.is_none() => file = Some(word),
+                Word::Plain => addresses.push(address_of(word)?)?,
+            }
+        }
+        match file {
+            Some(file) => Ok(Command::Report(Request {
+                file,
+                strict,
+                addresses,
+            })),
+            None => Err(UsageError::NoFile),
+        }
     }
 }
 
@@ -98,7 +141,9 @@ pub fn parse_line(line: &str) -> Result<Option<u64>, UsageError<'_>> {
 }
 
 // the address that a word names, or the sentence why it names none
-fn address_of(word: &str) -> Result<u64, UsageError<'_>> {
+fn address_of(word: &str) -> Result<u64, UsageError<'_>>
+    ensures { Named word.now result }
+{
     match parse_address(word.as_bytes()) {
         Ok(address) => Ok(address),
         Err(error) => Err(UsageError::BadAddress(word, error)),

@@ -11,7 +11,7 @@ mod report;
 mod survey;
 
 pub use address::{AddressError, parse_address};
-pub use arguments::{Command, HELP, Request, UsageError, VERSION, parse_arguments, parse_line};
+pub use arguments::{Command, HELP, Request, UsageError, VERSION, parse_line};
 pub use image::{Image, Relocated};
 pub use refusal::Refusal;
 pub use report::{Status, write_report};
