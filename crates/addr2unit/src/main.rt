@@ -4,9 +4,7 @@
 use std::process::ExitCode;
 use std::rt::Files;
 use std::{env, fs, io};
-use unit_report::{
-    Command, HELP, Request, Status, VERSION, parse_line, write_report,
-};
+use unit_report::{Command, HELP, Request, Status, VERSION, parse_line, write_report};
 
 fn main(rt: HostRuntime) -> io::Result<ExitCode> {
     let words: Vec<String> = env::args(&rt)?.skip(1).collect(rt.alloc())?;

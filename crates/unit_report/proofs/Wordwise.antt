@@ -1,5 +1,5 @@
 -- A command line word by word.
-use Rattle.std.proofs.Common.{◌≡◌, ℕ, ◌+◌, ◌<◌, Bool, true, false, List, ◌∷◌, ◌++◌, [], length, get_or, map, drop, Ok, Err, Result, Option, Some, None, is_some, option_map, refl, sym, ap, ◌∙◌}
+use Rattle.std.proofs.Common.{◌≡◌, ℕ, ◌+◌, ◌<◌, Bool, true, false, List, ◌∷◌, length, get_or, map, drop, Result, Option, Some, None, is_some, option_map, refl, sym, ap, ◌∙◌}
 use Rattle.std.proofs.lemmas.Bool.{false≢true}
 use Rattle.std.proofs.lemmas.List.{drop_more}
 use Rattle.unit_report.specs.declared.address.AddressError.{AddressError}
@@ -7,7 +7,7 @@ use Rattle.unit_report.specs.declared.arguments.Word.{Word}
 use Rattle.unit_report.specs.declared.arguments.Word.TheVariants.{Plain}
 use Rattle.unit_report.specs.Addresses.{address_of}
 use Rattle.unit_report.specs.Words.{word_of}
-use Rattle.unit_report.specs.Arguments.{Words, told, arguments, with_word, with_address, with_plain, Asked, Misuse, bad_address}
+use Rattle.unit_report.specs.Arguments.{Words, told, arguments, with_word, with_address, with_plain}
 
 -- what is told so far and the words left, by the kind of the next word
 pub by_kind : {X : Type 0} (f : X → List ℕ) (s : Words) (xs : List X) (k : ℕ) (x : X) (bs : List ℕ) (kind : Word) → k < length xs → x ≡ get_or xs k x

@@ -1,5 +1,6 @@
 -- How the code's command stands for what is asked for; want of memory may end the reading at any place.
-use Rattle.std.specs.Prelude.{◌≡◌, ℕ, List, Ok, Err, Result, vec_items}
+use Rattle.std.specs.Prelude.{◌≡◌, ◌≢◌, ℕ, List, length, Option, Some, None, Ok, Err, Result, vec_items}
+use Rattle.std.specs.Str.{IsTrimAscii}
 use Rattle.unit_report.specs.declared.arguments.Command.{Command}
 use Rattle.unit_report.specs.declared.arguments.Command.TheVariants as command
 use Rattle.unit_report.specs.declared.arguments.UsageError.{UsageError}
@@ -27,3 +28,13 @@ Named w (Err (BadAddress v e)) = (v.now ≡ w) × (Err e ≡ address_of w)
 Named w (Err NoFile) = ⊥
 Named w (Err (UnknownOption v)) = ⊥
 Named w (Err NoMemory) = ⊥
+
+-- the same of a word that may be empty
+abbrev pub NamedOrNone : List ℕ → Result (Option ℕ) UsageError → Type 0
+NamedOrNone w (Ok None) = length w ≡ 0
+NamedOrNone w (Ok (Some a)) = (length w ≢ 0) × Named w (Ok a)
+NamedOrNone w (Err e) = (length w ≢ 0) × Named w (Err e)
+
+-- the same of a line, without the blanks around what stands on it
+abbrev pub OnLine : List ℕ → Result (Option ℕ) UsageError → Type 0
+OnLine line r = (w : List ℕ) × IsTrimAscii line w × NamedOrNone w r

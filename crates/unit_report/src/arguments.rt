@@ -2,7 +2,7 @@
 ghost use Rattle.std.specs.Prelude.{◌≡◌, map, string_bytes};
 ghost use Rattle.unit_report.specs.declared.arguments.UsageError.TheVariants.{NoMemory};
 ghost use Rattle.unit_report.specs.Words.{word_of};
-ghost use Rattle.unit_report.specs.ArgumentLinks.{Named};
+ghost use Rattle.unit_report.specs.ArgumentLinks.{Named, OnLine};
 
 use crate::address::{AddressError, parse_address};
 use std::alloc::{AllocError, AllocFailed, Global};
@@ -132,7 +132,9 @@ impl<'a> Command<'a> {
 }
 
 /// The address on a line, where it is not blank.
-pub fn parse_line(line: &str) -> Result<Option<u64>, UsageError<'_>> {
+pub fn parse_line(line: &str) -> Result<Option<u64>, UsageError<'_>>
+    ensures { OnLine line.now result }
+{
     let word = line.trim_ascii();
     if word.is_empty() {
         return Ok(None);
