@@ -1,5 +1,5 @@
 -- The entries of the section table.
-use Rattle.std.specs.Prelude.{ℕ, ◌+◌, ◌*◌}
+use Rattle.std.specs.Prelude.{ℕ, ◌+◌, ◌*◌, ◌/◌, ◌%◌, ◌^◌, Bool, ◌==◌}
 use Rattle.elf.specs.declared.section.Section.{Section}
 use Rattle.elf.specs.Words.{Words, number, word_at}
 
@@ -22,3 +22,7 @@ section_of w i at =
       info = number w (at + 12 + 4 * w.word) 4;
       entry_size = word_at w (at + 16 + 5 * w.word);
     }
+
+-- bit 11 of the flags says that a section is compressed
+abbrev pub is_compressed : Section → Bool
+is_compressed s = s.flags / 2 ^ 11 % 2 == 1

@@ -1,9 +1,12 @@
 // The entries of the section table.
 ghost use Rattle.std.specs.Prelude.{◌≡◌, ◌+◌, ◌≤◌, length};
-ghost use Rattle.elf.specs.Sections.{section_size, section_of};
+ghost use Rattle.elf.specs.Sections.{section_size, section_of, is_compressed};
 ghost use Rattle.elf.specs.Links.{word_of, words_is};
 
 use crate::words::{Class, Words};
+
+// which bit of the flags says that a section is compressed
+const COMPRESSED_BIT: u32 = 11;
 
 /// What the section table says of a section.
 #[derive(Clone, Copy, PartialEq, Eq, Debug)]
@@ -21,6 +24,15 @@ pub struct Section {
     pub link: u32,
     pub info: u32,
     pub entry_size: u64,
+}
+
+impl Section {
+    /// Whether the bytes of the section are compressed.
+    pub fn is_compressed(&self) -> bool
+        ensures { result ≡ is_compressed self.now }
+    {
+        (self.flags >> COMPRESSED_BIT) % 2 == 1
+    }
 }
 
 /// How many bytes an entry of the section table takes.
