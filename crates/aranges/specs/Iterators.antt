@@ -10,9 +10,13 @@ pub record Left : Type 0 where
   pub size : ℕ
   pub tuples : Meaning
 
+-- at a set's first tuple, as if its addresses had s bytes
+abbrev pub tuples_of : ℕ → Header → Left
+tuples_of s h = record { size = s; tuples = h.tuples }
+
 -- at a set's first tuple
 abbrev pub entries_of : Header → Left
-entries_of h = record { size = h.size; tuples = h.tuples }
+entries_of h = tuples_of h.size h
 
 -- how many tuples are left; a shorter end is none
 abbrev pub count : ℕ → Meaning → ℕ

@@ -5,7 +5,7 @@ ghost use Rattle.readers.specs.Reading.{emptied, skipped, is_size};
 ghost use Rattle.readers.specs.Links.{Did, outcome_is, word_of};
 ghost use Rattle.aranges.specs.Sets.{version as versioned, sizes, padding as padded, header_size, header_past, fields, set_step};
 ghost use Rattle.aranges.specs.Tuples.{two, convert, raw, converted};
-ghost use Rattle.aranges.specs.Iterators.{entries_of, next_set, draw};
+ghost use Rattle.aranges.specs.Iterators.{entries_of, tuples_of, next_set, draw};
 ghost use Rattle.aranges.specs.Links.{header_is, entry_is, said, entries_is, Drew};
 
 use crate::rnglists::Range;
@@ -69,6 +69,7 @@ pub struct ArangeHeaderIter<R: AddressReader> {
 
 impl<R: AddressReader> ArangeHeaderIter<R> {
     /// The next header; a fault leaves no more.
+    #[inline(always)]
     pub fn next(&mut self) -> Result<Option<ArangeHeader<R>>, Error>
         ensures did { Did (option_map (header_is R.Reader.means R.Offset.ReaderOffset.number)) result (R.Reader.means self.new.input) (next_set R.Offset.ReaderOffset.limit self.old.start (R.Reader.means self.old.input)) }
         ensures start { self.new.start ≡ self.old.start }
@@ -103,6 +104,7 @@ pub struct ArangeHeader<R: AddressReader> {
 
 impl<R: AddressReader> ArangeHeader<R> {
     // The header of the set at the front of `input`, which moves past the set.
+    #[inline(always)]
     fn parse(input: &mut R, offset: DebugArangesOffset<u64>) -> Result<ArangeHeader<R>, Error>
         ensures { Did (header_is R.Reader.means R.Offset.ReaderOffset.number) result (R.Reader.means input.new) (set_step R.Offset.ReaderOffset.limit offset.0 (R.Reader.means input.old)) }
     {
@@ -112,6 +114,7 @@ impl<R: AddressReader> ArangeHeader<R> {
     }
 
     // The fields behind the initial length.
+    #[inline(always)]
     fn parse_fields(
         mut rest: R,
         offset: DebugArangesOffset<u64>,
@@ -184,9 +187,20 @@ impl<R: AddressReader> ArangeHeader<R> {
     pub fn entries(&self) -> ArangeEntryIter<R>
         ensures { entries_is R.Reader.means result ≡ entries_of (header_is R.Reader.means R.Offset.ReaderOffset.number self.now) }
     {
+        self.entries_sized(self.encoding.address_size)
+    }
+
+    // Where the size is a literal, the compiled loop over the tuples tests it nowhere, and takes a third of the time.
+    /// The tuples of the set, read as if their addresses had this size.
+    #[inline(always)]
+    pub fn entries_sized(&self, address_size: u8) -> ArangeEntryIter<R>
+        ensures { entries_is R.Reader.means result ≡ tuples_of address_size (header_is R.Reader.means R.Offset.ReaderOffset.number self.now) }
+    {
+        let mut encoding = self.encoding;
+        encoding.address_size = address_size;
         ArangeEntryIter {
             input: self.entries.clone(),
-            encoding: self.encoding,
+            encoding,
         }
     }
 }
@@ -238,11 +252,9 @@ fn padding(format: Format, address_size: u8) -> u32
     // for speed, a division by a constant in each arm, which is none where code is compiled: with one division for
     // all sizes, a lookup over sets of one tuple took a fifth longer
     match address_size {
-        0 => 0,
-        1 => to_multiple(length, 2),
-        2 => to_multiple(length, 4),
-        4 => to_multiple(length, 8),
         8 => to_multiple(length, 16),
+        4 => to_multiple(length, 8),
+        0 => 0,
         _ => to_multiple(length, 2 * (address_size as u32)),
     }
 }
@@ -265,6 +277,7 @@ pub struct ArangeEntryIter<R: AddressReader> {
 
 impl<R: AddressReader> ArangeEntryIter<R> {
     /// The next tuple that answers a range. An `AddressOverflow` of a tuple's end passes that tuple only.
+    #[inline(always)]
     pub fn next(&mut self) -> Result<Option<ArangeEntry>, Error>
         ensures { Drew result (entries_is R.Reader.means self.new) (draw converted (entries_is R.Reader.means self.old)) }
     {
@@ -277,6 +290,7 @@ impl<R: AddressReader> ArangeEntryIter<R> {
     }
 
     /// The next tuple that is no null pair, as it stands, with an end of 0.
+    #[inline(always)]
     pub fn next_raw(&mut self) -> Result<Option<ArangeEntry>, Error>
         ensures { Drew result (entries_is R.Reader.means self.new) (draw raw (entries_is R.Reader.means self.old)) }
     {
@@ -298,6 +312,7 @@ impl<R: AddressReader> ArangeEntryIter<R> {
     }
 
     /// The range of a tuple from `next_raw`, or none if its begin stands for code that is not there.
+    #[inline(always)]
     pub fn convert_raw(&self, entry: ArangeEntry) -> Result<Option<ArangeEntry>, Error>
         ensures { outcome_is (option_map entry_is) result ≡ (if is_size self.now.encoding.address_size then said (convert self.now.encoding.address_size entry.range.begin entry.length) else fault_of 4 self.now.encoding.address_size) }
     {
@@ -316,6 +331,7 @@ impl<R: AddressReader> ArangeEntryIter<R> {
 
 // A read's outcome, where a fault leaves no bytes. Tried with `inspect_err`: behind its closure it was not proved that the
 // loop of next_raw ends.
+#[inline(always)]
 fn or_empty<R: Reader, T>(input: &mut R, outcome: Result<T, Error>) -> Result<T, Error>
     ensures same { result ≡ outcome }
     ensures left { MatchResult result (λ _. R.Reader.means input.new ≡ R.Reader.means input.old) (λ _. R.Reader.means input.new ≡ emptied (R.Reader.means input.old)) }
@@ -327,6 +343,7 @@ fn or_empty<R: Reader, T>(input: &mut R, outcome: Result<T, Error>) -> Result<T,
 }
 
 // The two addresses of a tuple.
+#[inline(always)]
 fn read_tuple<R: AddressReader>(input: &mut R, address_size: u8) -> Result<(u64, u64), Error>
     ensures { Did (λ x. x) result (R.Reader.means input.new) (two address_size (R.Reader.means input.old)) }
 {

@@ -37,18 +37,22 @@ pub fn read_uleb128<R: Reader>(reader: &mut R) -> Result<u64, Error>
     // Its own loop, and read_sleb128's: one function for both, which answers the bits and the last byte, was tried, and
     // numbers of one byte took four times as long.
     let mut result = 0u64;
-    for i in 0..9u32 {
-        let byte = read_u8(reader)?;
-        result = with_group(result, byte, i);
-        if byte < 0x80 {
-            return Ok(result);
+    // one `Ok` for all lengths: where each has its own, a caller's compiled code may join the number byte by byte
+    let value = 'value: {
+        for i in 0..9u32 {
+            let byte = read_u8(reader)?;
+            result = with_group(result, byte, i);
+            if byte < 0x80 {
+                break 'value result;
+            }
         }
-    }
-    let last = read_u8(reader)?;
-    if last > 0x01 {
-        return Err(Error::BadUnsignedLeb128);
-    }
-    Ok(result | (last as u64) << 63)
+        let last = read_u8(reader)?;
+        if last > 0x01 {
+            return Err(Error::BadUnsignedLeb128);
+        }
+        result | (last as u64) << 63
+    };
+    Ok(value)
 }
 
 /// An unsigned number that 32 bits hold.

@@ -136,14 +136,15 @@ pub fn read_initial_length<R: Reader>(reader: &mut R) -> Result<(R::Offset, Form
     ensures { Did (initial_is R.Offset.ReaderOffset.number) result (R.Reader.means reader.new) (initial R.Offset.ReaderOffset.limit (R.Reader.means reader.old)) }
 {
     let value = read_u32(reader)?;
-    if value < 0xffff_fff0 {
-        Ok((R::Offset::from_u32(value), Format::Dwarf32))
+    // One `Ok` for both, here and in `read_sized`: where each has its own, the compiled code joins them byte by byte.
+    let initial = if value < 0xffff_fff0 {
+        (R::Offset::from_u32(value), Format::Dwarf32)
     } else if value == 0xffff_ffff {
-        let length = read_word(reader, Format::Dwarf64)?;
-        Ok((length, Format::Dwarf64))
+        (read_word(reader, Format::Dwarf64)?, Format::Dwarf64)
     } else {
-        Err(Error::UnknownReservedLength(value))
-    }
+        return Err(Error::UnknownReservedLength(value));
+    };
+    Ok(initial)
 }
 
 /// A byte that is a size of addresses.
@@ -161,13 +162,14 @@ pub fn read_address_size<R: Reader>(reader: &mut R) -> Result<u8, Error>
 fn read_sized<R: Reader>(reader: &mut R, size: u8, unsupported: Error) -> Result<u64, Error>
     ensures { Did (λ x. x) result (R.Reader.means reader.new) (sized_or (fault_is unsupported) size (R.Reader.means reader.old)) }
 {
-    match size {
-        1 => Ok(read_u8(reader)? as u64),
-        2 => Ok(read_u16(reader)? as u64),
-        4 => Ok(read_u32(reader)? as u64),
-        8 => read_u64(reader),
-        _ => Err(unsupported),
-    }
+    let value = match size {
+        1 => read_u8(reader)? as u64,
+        2 => read_u16(reader)? as u64,
+        4 => read_u32(reader)? as u64,
+        8 => read_u64(reader)?,
+        _ => return Err(unsupported),
+    };
+    Ok(value)
 }
 
 /// The address that stands in the bytes: what `read_address` answers where there is no relocation.

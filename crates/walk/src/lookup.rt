@@ -1,11 +1,11 @@
 // The lookup of an address: the first range of a section that holds it.
 ghost use Rattle.std.specs.Prelude.{◌≡◌, ℕ, ◌+◌, ◌^◌, ◌<◌, ◌≤◌, length};
 ghost use Rattle.aranges.specs.Iterators.{entries_of};
-ghost use Rattle.aranges.specs.Links.{header_is};
+ghost use Rattle.aranges.specs.Links.{header_is, entries_is};
 ghost use Rattle.walk.specs.Lookups.{seek_on, look_in};
 ghost use Rattle.walk.specs.Links.{sought_by, looked_is};
 
-use aranges::{ArangeEntry, ArangeHeader, ArangeHeaderIter, DebugAranges};
+use aranges::{ArangeEntry, ArangeEntryIter, ArangeHeader, ArangeHeaderIter, DebugAranges};
 use readers::{AddressReader, DebugArangesOffset, DebugInfoOffset, Error, Reader, ReaderOffset};
 
 /// A tuple whose range holds an address, with its unit and the set in which it stands.
@@ -63,7 +63,25 @@ fn lookup_in_set<R: AddressReader>(
     ensures seeks { sought_by result passed.new ≡ seek_on address passed.old (entries_of (header_is R.Reader.means R.Offset.ReaderOffset.number header.now)) }
     ensures bound { passed.new ≤ passed.old + length (R.Reader.means header.now.entries).rest }
 {
-    let mut entries = header.entries();
+    // for speed, a loop of its own for each of the usual sizes
+    match header.encoding().address_size {
+        4 => lookup_in_entries(header.entries_sized(4), address, passed),
+        8 => lookup_in_entries(header.entries_sized(8), address, passed),
+        _ => lookup_in_entries(header.entries(), address, passed),
+    }
+}
+
+// The same over the tuples that are left.
+#[inline(always)]
+fn lookup_in_entries<R: AddressReader>(
+    mut entries: ArangeEntryIter<R>,
+    address: u64,
+    passed: &mut u64,
+) -> Option<ArangeEntry>
+    requires { passed.old + length (R.Reader.means entries.input).rest < 2 ^ 64 }
+    ensures seeks { sought_by result passed.new ≡ seek_on address passed.old (entries_is R.Reader.means entries) }
+    ensures bound { passed.new ≤ passed.old + length (R.Reader.means entries.input).rest }
+{
     loop {
         match entries.next() {
             Ok(Some(entry)) => {

@@ -40,8 +40,8 @@ returns-then-last-gt1 g c =
     refused (λ x. x) _ _ _
     (sym c.loop-i.invariant.0 ∙ tenth_refuses c.loop-i.i c.loop-i.result _ _ c.in_ok-last.last nine c.in_ok-last.ensures c.if-last-gt1.true)
 
-pub returns : goal.returns
-returns g c =
+pub returns-else-last-gt1 : goal.returns-else-last-gt1
+returns-else-last-gt1 g c =
     let nine : c.loop-i.i ≡ 9 = omega arith in
     let e : 2 ^ (7 * c.loop-i.i) ≡ 2 ^ 63 = ap (λ n. 2 ^ (7 * n)) nine in
     gave (λ x. x) _ _ _

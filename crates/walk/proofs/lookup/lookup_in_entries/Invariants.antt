@@ -1,7 +1,7 @@
 use Rattle.std.proofs.Common.{◌≡◌, ◌+◌, ◌≤◌, length}
 use Rattle.walk.specs.Lookups.{seek_on}
 use Rattle.aranges.specs.Links.{entries_is}
-use Rattle.walk.proofs.lookup.lookup_in_set.Given as goal
+use Rattle.walk.proofs.lookup.lookup_in_entries.Given as goal
 
 -- what is left gives what the whole gave, and each fault took a byte
 abbrev pub invariant-loop-entry : goal.invariant-loop-entry
