@@ -1,12 +1,12 @@
 // The header of a set.
-ghost use Rattle.std.specs.Prelude.{◌≡◌, ◌^◌, ◌<◌, ◌≤◌, ◌+◌, length, IfOk};
+ghost use Rattle.std.specs.Prelude.{◌≡◌, ◌^◌, length, IfOk};
 ghost use Rattle.readers.specs.Links.{outcome_is};
 ghost use Rattle.aranges.specs.Links.{header_is};
-ghost use Rattle.aranges.specs.Sets.{header_past, span};
+ghost use Rattle.aranges.specs.Sets.{header_past};
 ghost use Rattle.readers.specs.Reading.{plain};
 ghost use Rattle.section_reader.specs.Means.{section_means};
 ghost use Rattle.mallethill.specs.Told.{returned, held};
-ghost use Rattle.mallethill.specs.Headers.{fields_of, header_at};
+ghost use Rattle.mallethill.specs.Headers.{header_at, Within};
 
 use crate::fault::{Fault, settle};
 use crate::section::open;
@@ -41,6 +41,7 @@ pub extern "C" fn mallethill_header(
     settle(read_header(section, big_endian, offset), answer)
 }
 
+// The same as a result.
 fn read_header(section: &[u8], big_endian: bool, offset: u64) -> Result<SetHeader, Error>
     ensures { outcome_is (λ x. x) result ≡ header_at section.now big_endian offset }
 {
@@ -58,15 +59,14 @@ fn read_header(section: &[u8], big_endian: bool, offset: u64) -> Result<SetHeade
     })
 }
 
-/// The set at an offset of a section.
-#[tactic(auto, using(crate::proofs::Spans::inside))]
+/// The set at an offset of a section, in which it lies.
 pub fn open_set(
     section: &[u8],
     big_endian: bool,
     offset: u64,
 ) -> Result<ArangeHeader<EndianSlice<'_>>, Error>
     ensures reads { outcome_is (header_is section_means (λ x. x)) result ≡ header_past (2 ^ 64) offset (plain 0 section.now big_endian) }
-    ensures inside { IfOk result (λ h. ((header_is section_means (λ x. x) h).place + span (header_is section_means (λ x. x) h) ≤ length section.now) × (length (header_is section_means (λ x. x) h).tuples.rest ≤ length section.now)) }
+    ensures inside { IfOk result (λ h. Within (length section.now) (header_is section_means (λ x. x) h)) }
 {
     let section = DebugAranges::new(open(section, big_endian));
     section.header(DebugArangesOffset(offset as usize))

@@ -43,6 +43,7 @@ pub extern "C" fn mallethill_ranges(
     settle(read_set(section, big_endian, offset, ranges), answer)
 }
 
+// The same as a result; only where the header is read does it write.
 fn read_set(
     section: &[u8],
     big_endian: bool,
