@@ -1,3 +1,4 @@
+-- Each answer of next adds a range or a fault to what was listed before.
 use Rattle.std.proofs.Common.{◌≡◌, ℕ, List, [], ◌∷◌, ◌++◌, set, Some, None, Err, sym, ap, ◌∙◌, arith, length-append}
 use Rattle.aranges.specs.Links.{entries_is, entry_is}
 use Rattle.aranges.specs.declared.rnglists.Range.{Range}
