@@ -60,6 +60,7 @@ fn read_header(section: &[u8], big_endian: bool, offset: u64) -> Result<SetHeade
 }
 
 /// The set at an offset of a section, in which it lies.
+#[inline(always)]
 pub fn open_set(
     section: &[u8],
     big_endian: bool,

@@ -198,6 +198,7 @@ impl<O: ReaderOffset> AddressReader for SectionReader<'_, O> {
         read_plain_address(self, address_size)
     }
 
+    #[inline(always)]
     fn read_offset(&mut self, format: Format) -> Result<O, Error> {
         read_word(self, format)
     }
