@@ -5,7 +5,7 @@ use Rattle.mallethill.specs.declared.ranges.AddressRange.{AddressRange}
 use Rattle.mallethill.specs.Told.{filled}
 use Rattle.mallethill.specs.Ranges.{listed_on}
 use Rattle.mallethill.proofs.Lists.{behind}
-use Rattle.mallethill.proofs.ranges.read_ranges.Given as goal
+use Rattle.mallethill.proofs.ranges.read_entries.Given as goal
 
 -- some ranges stand at the buffer's front, what is left lists those behind them, and each range or fault took a byte
 abbrev pub invariant-loop-entry : goal.invariant-loop-entry

@@ -7,8 +7,8 @@ use Rattle.mallethill.specs.Told.{filled}
 use Rattle.mallethill.specs.Ranges.{Listed, listed_on, range_of, counted}
 use Rattle.mallethill.proofs.Fills.{filled_more, filled_full}
 use Rattle.mallethill.proofs.Lists.{lists, lists_ok, behind, behind_range, behind_fault, behind_all}
-use Rattle.mallethill.proofs.ranges.read_ranges.Goals.{then-count-ranges, else-count-ranges}
-use Rattle.mallethill.proofs.ranges.read_ranges.Goals as goal
+use Rattle.mallethill.proofs.ranges.read_entries.Goals.{then-count-ranges, else-count-ranges}
+use Rattle.mallethill.proofs.ranges.read_entries.Goals as goal
 
 pub loop-entry-smaller-in-Ok-Some : goal.loop-entry-smaller-in-Ok-Some
 loop-entry-smaller-in-Ok-Some g c =
@@ -46,8 +46,8 @@ returns-in-Ok-None g c =
     let i = c.loop-entry.invariant in
     let p = c.loop-entry.passed in
     let v = lists_ok l b c.in-Ok-None.field-0 None c.in-Ok-None.field-0-is c.in-Ok-None.ensures in
-    let all : listed_on (entries_of (header_is g.R.Reader.means g.R.Offset.ReaderOffset.number c.args.header.now)) ≡ record { ranges = i.0; passed = p } =
-    sym (ap listed_on c.entries-entries.ensures) ∙ i.3 ∙ ap (behind i.0 p) v ∙ behind_all i.0 p in
+    let all : listed_on (entries_is g.R.Reader.means c.args.entries) ≡ record { ranges = i.0; passed = p } =
+    i.3 ∙ ap (behind i.0 p) v ∙ behind_all i.0 p in
     record {
       answer = ap (λ (n : ℕ). record { count = n; passed = p }) (sym i.1) ∙ sym (ap counted all);
       ranges = i.2 ∙ sym (ap (λ (x : Listed). filled c.args.ranges.now x.ranges) all);
