@@ -1,5 +1,5 @@
 -- What C is told of the header of a set.
-use Rattle.std.specs.Prelude.{ℕ, zero, suc, ◌+◌, ◌^◌, Bool, cond, List, length, ◌==◌}
+use Rattle.std.specs.Prelude.{ℕ, zero, suc, ◌+◌, ◌^◌, ◌≤◌, Bool, cond, List, length, ◌==◌}
 use Rattle.readers.specs.Outcome.{Outcome, answer, fault}
 use Rattle.readers.specs.Reading.{plain}
 use Rattle.aranges.specs.Sets.{Header, header_past, span}
@@ -20,6 +20,10 @@ fields_of h =
       address_size = h.size;
       word_size = h.word;
     }
+
+-- a set and its tuples have room in n bytes; only private functions cite this
+abbrev pub Within : ℕ → Header → Type 0
+Within n h = (h.place + span h ≤ n) × (length h.tuples.rest ≤ n)
 
 -- the header at an offset of a section, the order of whose bytes is told
 abbrev pub header_at : List ℕ → Bool → ℕ → Outcome SetHeader

@@ -26,7 +26,7 @@ with_range e l = record { ranges = range_of e ∷ l.ranges; passed = l.passed }
 abbrev pub with_fault : Listed → Listed
 with_fault l = record { ranges = l.ranges; passed = l.passed + 1 }
 
--- over n tuples of addresses of s bytes, from the reader on
+-- over n tuples of addresses of s bytes, from the reader on; only relocation refuses one, and ends its set
 abbrev pub listed : ℕ → ℕ → Meaning → Listed
 listed s zero m = nothing_listed
 listed s (suc n) m =

@@ -1,12 +1,12 @@
 // The headers of sets.
-ghost use Rattle.std.specs.Prelude.{◌≡◌, ◌^◌, ◌<◌, ◌≤◌, ◌+◌, length, IfOk};
+ghost use Rattle.std.specs.Prelude.{◌≡◌, ◌^◌, length, IfOk};
 ghost use Rattle.readers.specs.Links.{outcome_is};
 ghost use Rattle.aranges.specs.Links.{header_is};
-ghost use Rattle.aranges.specs.Sets.{header_past, span};
+ghost use Rattle.aranges.specs.Sets.{header_past};
 ghost use Rattle.readers.specs.Reading.{plain};
 ghost use Rattle.section_reader.specs.Means.{section_means};
 ghost use Rattle.mallethill.specs.Told.{returned, held, filled};
-ghost use Rattle.mallethill.specs.Headers.{header_at, headers_from, counted};
+ghost use Rattle.mallethill.specs.Headers.{header_at, headers_from, counted, Within};
 
 use crate::fault::{Fault, settle};
 use crate::section::open;
@@ -97,6 +97,7 @@ fn read_headers(
     (HeadersRead { count, next }, Fault::NONE)
 }
 
+// One header, as a result.
 #[inline(always)]
 fn read_header(section: &[u8], big_endian: bool, offset: u64) -> Result<SetHeader, Error>
     ensures { outcome_is (λ x. x) result ≡ header_at section.now big_endian offset }
@@ -115,16 +116,15 @@ fn read_header(section: &[u8], big_endian: bool, offset: u64) -> Result<SetHeade
     })
 }
 
-/// The set at an offset of a section.
+/// The set at an offset of a section, in which it lies.
 #[inline(always)]
-#[tactic(auto, using(crate::proofs::Spans::inside))]
 pub fn open_set(
     section: &[u8],
     big_endian: bool,
     offset: u64,
 ) -> Result<ArangeHeader<EndianSlice<'_>>, Error>
     ensures reads { outcome_is (header_is section_means (λ x. x)) result ≡ header_past (2 ^ 64) offset (plain 0 section.now big_endian) }
-    ensures inside { IfOk result (λ h. ((header_is section_means (λ x. x) h).place + span (header_is section_means (λ x. x) h) ≤ length section.now) × (length (header_is section_means (λ x. x) h).tuples.rest ≤ length section.now)) }
+    ensures inside { IfOk result (λ h. Within (length section.now) (header_is section_means (λ x. x) h)) }
 {
     let section = DebugAranges::new(open(section, big_endian));
     section.header(DebugArangesOffset(offset as usize))

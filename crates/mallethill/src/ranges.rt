@@ -1,7 +1,7 @@
 // The ranges of a set.
 ghost use Rattle.std.specs.Prelude.{◌≡◌, ◌^◌, ◌<◌, length};
 ghost use Rattle.readers.specs.Links.{outcome_is};
-ghost use Rattle.aranges.specs.Links.{entries_is, header_is};
+ghost use Rattle.aranges.specs.Links.{header_is, entries_is};
 ghost use Rattle.aranges.specs.Iterators.{entries_of};
 ghost use Rattle.mallethill.specs.Told.{returned, held, filled, outcome_map};
 ghost use Rattle.mallethill.specs.Ranges.{listed_on, listed_at, counted};
@@ -43,6 +43,7 @@ pub extern "C" fn mallethill_ranges(
     settle(read_set(section, big_endian, offset, ranges), answer)
 }
 
+// The same as a result; only where the header is read does it write.
 fn read_set(
     section: &[u8],
     big_endian: bool,

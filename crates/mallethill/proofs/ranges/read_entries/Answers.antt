@@ -1,7 +1,7 @@
+-- Each answer of next adds a range or a fault to what was listed before.
 use Rattle.std.proofs.Common.{◌≡◌, ℕ, List, [], ◌∷◌, ◌++◌, set, Some, None, Err, sym, ap, ◌∙◌, arith, length-append}
-use Rattle.aranges.specs.Links.{header_is, entries_is, entry_is}
+use Rattle.aranges.specs.Links.{entries_is, entry_is}
 use Rattle.aranges.specs.declared.rnglists.Range.{Range}
-use Rattle.aranges.specs.Iterators.{entries_of}
 use Rattle.mallethill.specs.declared.ranges.AddressRange.{AddressRange}
 use Rattle.mallethill.specs.Told.{filled}
 use Rattle.mallethill.specs.Ranges.{Listed, listed_on, range_of, counted}

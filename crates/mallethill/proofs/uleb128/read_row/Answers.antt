@@ -1,3 +1,4 @@
+-- Each number that is read stands behind those before it, and a fault ends the row.
 use Rattle.std.proofs.Common.{◌≡◌, ℕ, ◌+◌, ◌-◌, ◌<◌, List, [], ◌∷◌, ◌++◌, false, length, eqb, set, sym, ap, ◌∙◌, arith, length-append}
 use Rattle.readers.specs.Links.{fault_is}
 use Rattle.mallethill.specs.Told.{none, told, filled}
