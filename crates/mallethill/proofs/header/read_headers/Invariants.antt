@@ -1,5 +1,5 @@
 -- The loop over the headers.
-use Rattle.std.proofs.Common.{◌≡◌, ℕ, ◌-◌, List, length}
+use Rattle.std.proofs.Common.{◌≡◌, ◌-◌, List, length}
 use Rattle.mallethill.specs.declared.header.SetHeader.{SetHeader}
 use Rattle.mallethill.specs.Told.{filled}
 use Rattle.mallethill.specs.Headers.{headers_from}
