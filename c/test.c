@@ -1,4 +1,4 @@
-// Calls the four functions of the static library on small inputs, and names each check that fails.
+// Calls the five functions of the static library on small inputs, and names each check that fails.
 #include "mallethill.h"
 
 #include <stdio.h>
@@ -95,6 +95,31 @@ static void headers(void) {
                    0xfffffff1));
 }
 
+static void rows_of_headers(void) {
+    struct mallethill_header room[3] = {{0}};
+    struct mallethill_headers read = {9, 9};
+    // until the section ends
+    CHECK(no_fault(mallethill_headers(section, sizeof section, false, 0, room, 3, &read)));
+    CHECK(read.count == 2 && read.next == sizeof section);
+    CHECK(room[0].debug_info_offset == 0x10 && room[0].next == 48 && room[1].offset == 48);
+    CHECK(room[1].debug_info_offset == 0x20 && room[1].length == 0x14 && room[1].next == sizeof section);
+    CHECK(room[2].version == 0);
+    // until the room ends, and on from there
+    CHECK(no_fault(mallethill_headers(section, sizeof section, false, 0, room, 1, &read)));
+    CHECK(read.count == 1 && read.next == 48);
+    CHECK(no_fault(mallethill_headers(section, sizeof section, false, read.next, room, 1, &read)));
+    CHECK(read.count == 1 && read.next == sizeof section && room[0].debug_info_offset == 0x20);
+    CHECK(no_fault(mallethill_headers(section, sizeof section, false, read.next, room, 1, &read)));
+    CHECK(read.count == 0 && read.next == sizeof section);
+    // until a set lacks its end, and at an offset past the section
+    CHECK(is_fault(mallethill_headers(section, sizeof section - 1, false, 0, room, 3, &read), MALLETHILL_UNEXPECTED_EOF,
+                   52));
+    CHECK(read.count == 1 && read.next == 48 && room[0].debug_info_offset == 0x10);
+    CHECK(is_fault(mallethill_headers(section, sizeof section, false, sizeof section + 1, room, 3, &read),
+                   MALLETHILL_UNEXPECTED_EOF, 0));
+    CHECK(read.count == 0 && read.next == sizeof section + 1);
+}
+
 static void ranges(void) {
     struct mallethill_range room[3] = {{1, 1}, {1, 1}, {1, 1}};
     struct mallethill_ranges read = {9, 9};
@@ -141,10 +166,11 @@ static void numbers(void) {
 int main(void) {
     lookups();
     headers();
+    rows_of_headers();
     ranges();
     numbers();
     if (failures == 0) {
-        puts("the four functions answer as they should");
+        puts("the five functions answer as they should");
     }
     return failures != 0;
 }

@@ -207,6 +207,7 @@ impl<R: AddressReader> ArangeHeader<R> {
 }
 
 // The version of a set, 2 or 3.
+#[inline(always)]
 fn read_version<R: Reader>(reader: &mut R) -> Result<u16, Error>
     ensures { Did (λ x. x) result (R.Reader.means reader.new) (versioned (R.Reader.means reader.old)) }
 {
@@ -240,6 +241,7 @@ fn skip_padding<R: Reader>(reader: &mut R, format: Format, address_size: u8) -> 
 }
 
 // How many bytes the fields of a header take, from the set's start.
+#[inline(always)]
 fn header_length(format: Format) -> u32
     ensures { result ≡ header_size (word_of format) }
 {
@@ -265,6 +267,7 @@ fn padding(format: Format, address_size: u8) -> u32
 
 // How many bytes there are from a place to the next that is a multiple of a size. It is the rule's
 // own term: `next_multiple_of` would ask for a bound on the sum, and test the rest.
+#[inline(always)]
 fn to_multiple(place: u32, size: u32) -> u32
     requires { 0 < size }
     ensures { result ≡ (size - place % size) % size }

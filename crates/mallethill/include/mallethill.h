@@ -54,6 +54,18 @@ struct mallethill_header {
 struct mallethill_fault mallethill_header(const uint8_t *section, size_t section_len, bool big_endian,
                                           uint64_t offset, struct mallethill_header *answer);
 
+// How many headers were read, and the offset behind the last of their sets.
+struct mallethill_headers {
+    uint64_t count;
+    uint64_t next;
+};
+
+// The headers of the sets from an offset of a section on, until the section or the room ends. At a fault too it writes
+// its answer: the headers before the set that cannot be read, which begins at `next`.
+struct mallethill_fault mallethill_headers(const uint8_t *section, size_t section_len, bool big_endian,
+                                           uint64_t offset, struct mallethill_header *headers, size_t headers_len,
+                                           struct mallethill_headers *answer);
+
 // The addresses from `begin` on, up to `end` and without it.
 struct mallethill_range {
     uint64_t begin;
@@ -77,8 +89,8 @@ struct mallethill_numbers {
     uint64_t taken;
 };
 
-// The unsigned LEB128 numbers at the front of some bytes, until the bytes or the room end. Unlike the other calls it
-// writes its answer at a fault too: the numbers before the one that cannot be read, which begins at `taken`.
+// The unsigned LEB128 numbers at the front of some bytes, until the bytes or the room end. At a fault too it writes its
+// answer: the numbers before the one that cannot be read, which begins at `taken`.
 struct mallethill_fault mallethill_uleb128(const uint8_t *bytes, size_t bytes_len, uint64_t *numbers,
                                            size_t numbers_len, struct mallethill_numbers *answer);
 

@@ -1,12 +1,12 @@
-// The header of a set.
+// The headers of sets.
 ghost use Rattle.std.specs.Prelude.{◌≡◌, ◌^◌, length, IfOk};
 ghost use Rattle.readers.specs.Links.{outcome_is};
 ghost use Rattle.aranges.specs.Links.{header_is};
 ghost use Rattle.aranges.specs.Sets.{header_past};
 ghost use Rattle.readers.specs.Reading.{plain};
 ghost use Rattle.section_reader.specs.Means.{section_means};
-ghost use Rattle.mallethill.specs.Told.{returned, held};
-ghost use Rattle.mallethill.specs.Headers.{header_at, Within};
+ghost use Rattle.mallethill.specs.Told.{returned, held, filled};
+ghost use Rattle.mallethill.specs.Headers.{header_at, headers_from, counted, Within};
 
 use crate::fault::{Fault, settle};
 use crate::section::open;
@@ -41,7 +41,64 @@ pub extern "C" fn mallethill_header(
     settle(read_header(section, big_endian, offset), answer)
 }
 
-// The same as a result.
+/// How many headers were read, and the offset behind the last of their sets.
+#[repr(C)]
+#[derive(Clone, Copy)]
+pub struct HeadersRead {
+    pub count: u64,
+    pub next: u64,
+}
+
+/// The headers of the sets from an offset of a section on, until the section or the room ends. At a header that cannot
+/// be read, the fault comes beside the headers before it.
+#[unsafe(no_mangle)]
+pub extern "C" fn mallethill_headers(
+    section: &[u8],
+    big_endian: bool,
+    offset: u64,
+    headers: &mut [SetHeader],
+    answer: &mut HeadersRead,
+) -> Fault
+    ensures fault { result ≡ (headers_from section.now big_endian (length headers.old) offset).ended }
+    ensures answer { answer.new ≡ counted (headers_from section.now big_endian (length headers.old) offset) }
+    ensures headers { headers.new ≡ filled headers.old (headers_from section.now big_endian (length headers.old) offset).items }
+{
+    let (read, fault) = read_headers(section, big_endian, offset, headers);
+    *answer = read;
+    fault
+}
+
+fn read_headers(
+    section: &[u8],
+    big_endian: bool,
+    offset: u64,
+    headers: &mut [SetHeader],
+) -> (HeadersRead, Fault)
+    ensures fault { result.1 ≡ (headers_from section.now big_endian (length headers.old) offset).ended }
+    ensures answer { result.0 ≡ counted (headers_from section.now big_endian (length headers.old) offset) }
+    ensures headers { headers.new ≡ filled headers.old (headers_from section.now big_endian (length headers.old) offset).items }
+{
+    let mut count = 0usize;
+    let mut next = offset;
+    while count < headers.len() && next != section.len() as u64 {
+        match read_header(section, big_endian, next) {
+            Ok(header) => {
+                next = header.next;
+                headers[count] = header;
+            }
+            Err(error) => {
+                let count = count as u64;
+                return (HeadersRead { count, next }, Fault::from(error));
+            }
+        }
+        count += 1;
+    }
+    let count = count as u64;
+    (HeadersRead { count, next }, Fault::NONE)
+}
+
+// One header, as a result.
+#[inline(always)]
 fn read_header(section: &[u8], big_endian: bool, offset: u64) -> Result<SetHeader, Error>
     ensures { outcome_is (λ x. x) result ≡ header_at section.now big_endian offset }
 {
