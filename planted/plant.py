@@ -46,7 +46,8 @@ def verdict(status, output):
     # not by a line `logic=proved`: the crates below come first, and each has one
     if status == 0:
         return "PROVED", ""
-    facts = re.findall(r"(?:^|\s)(?:\./)?(src/\S+): (?:note: )?it is not proved that (.*)", output, re.M)
+    unproved = r"(?:^|\s)(?:\./)?(src/\S+): (?:note: )?(?:it is not proved that|`search` found no proof) (.*)"
+    facts = re.findall(unproved, output, re.M)
     if re.search(r"error\[", output) and not facts:
         return "unfit", re.search(r"error\[.*", output).group(0)[:150]
     if facts:
