@@ -8,8 +8,10 @@ pub record Row (A : Type 0) : Type 0 where
   pub place : ℕ
   pub ended : Fault
 
+-- nothing was read
 abbrev pub ended_at : {A : Type 0} → ℕ → Fault → Row A
 ended_at p f = record { items = []; place = p; ended = f }
 
+-- with one more in front
 abbrev pub with_item : {A : Type 0} → A → Row A → Row A
 with_item x r = record { items = x ∷ r.items; place = r.place; ended = r.ended }
