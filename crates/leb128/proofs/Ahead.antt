@@ -13,7 +13,7 @@ use Rattle.leb128.proofs.Unsigned.{ends, start, goes_on, ends_here, tenth_answer
 abbrev pub left_past : ℕ → ℕ → Meaning → Step ℕ
 left_past i acc m = left more [] ends i acc (past i m)
 
-pub start_past : (m : Meaning) → left_past 0 0 m ≡ unsigned m
+start_past : (m : Meaning) → left_past 0 0 m ≡ unsigned m
 start_past m =
     let e : m.id + 0 ≡ m.id = omega arith in
     ap (λ j. left more [] ends 0 0 (at j m.rest m)) e ∙ start m
@@ -58,3 +58,10 @@ module _ (m : Meaning) (bs : List ℕ) (enough : 10 ≤ length m.rest) (shown : 
 
       pub shown_refuses : 1 < get_or bs 9 0 → unsigned m ≡ refuses 8 0 (past 10 m)
       shown_refuses f = at_nine ∙ tenth_refuses i acc (past 9 m) (past 10 m) (get_or bs 9 0) nine (byte_ahead 9 (omega arith)) f
+
+  -- the first byte, from nothing
+  pub shown_one : get_or bs 0 0 < 128 → unsigned m ≡ gives (get_or bs 0 0) (past 1 m)
+  shown_one f = shown_ends 0 0 (start_past m) (omega arith) (get_or bs 0 0) (omega arith) f
+
+  pub shown_first : (v : ℕ) → v ≡ 0 + 2 ^ (7 * 0) * (get_or bs 0 0 % 128) → 128 ≤ get_or bs 0 0 → left_past 1 v m ≡ unsigned m
+  shown_first v value f = shown_goes_on 0 0 (start_past m) (omega arith) v value f

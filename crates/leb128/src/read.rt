@@ -37,9 +37,15 @@ pub fn read_uleb128<R: Reader>(reader: &mut R) -> Result<u64, Error>
     let Some(bytes) = reader.next_ten() else {
         return read_by_bytes(reader);
     };
-    let mut result = 0u64;
+    let first = bytes[0];
+    // most numbers have one byte
+    if first < 0x80 {
+        pass(reader, 1);
+        return Ok(first as u64);
+    }
+    let mut result = with_group(0, first, 0);
     let (value, len) = 'value: {
-        for i in 0..9u32 {
+        for i in 1..9u32 {
             let byte = bytes[i as usize];
             result = with_group(result, byte, i);
             if byte < 0x80 {

@@ -1,25 +1,33 @@
-use Rattle.std.proofs.Common.{◌≡◌, ◌+◌, ◌^◌, ◌<◌, ◌≤◌, sym, ap, ◌∙◌, arith}
+use Rattle.std.proofs.Common.{◌≡◌, ◌+◌, ◌^◌, ◌<◌, ◌≤◌, get_or, sym, ap, ◌∙◌, arith}
 use Rattle.readers.specs.Reading.{past, gives, refuses}
 use Rattle.leb128.specs.Leb128.{unsigned}
 use Rattle.readers.proofs.Steps.{gave, refused}
-use Rattle.leb128.proofs.Ahead.{start_past, shown_goes_on, shown_ends, shown_tenth, shown_refuses}
+use Rattle.leb128.proofs.Ahead.{shown_one, shown_first, shown_goes_on, shown_ends, shown_tenth, shown_refuses}
 use Rattle.leb128.proofs.read.read_uleb128.Goals.{then-loop-i-test+then-byte-lt128, else-loop-i-test+else-last-gt1}
 use Rattle.leb128.proofs.read.read_uleb128.Goals as goal
 
 pub loop-i-init : goal.loop-i-init
-loop-i-init g c = (start_past (g.R.Reader.means c.args.reader.now), omega arith)
+loop-i-init g c = (
+  shown_first _ _ c.in-Some.ensures.0 c.in-Some.ensures.1 c.with_group-result.result c.with_group-result.ensures.value c.if-first-lt128.false,
+  c.with_group-result.ensures.fits,
+)
 
 pub loop-i-preserved : goal.loop-i-preserved
 loop-i-preserved g c = (
-  shown_goes_on _ _ c.in-Some.ensures.0 c.in-Some.ensures.1 c.loop-i.i c.loop-i.result c.loop-i.invariant.0 (omega arith) c.with_group-result.result c.with_group-result.ensures.value c.if-byte-lt128.false,
-  c.with_group-result.ensures.fits,
+  shown_goes_on _ _ c.in-Some.ensures.0 c.in-Some.ensures.1 c.loop-i.i c.loop-i.result c.loop-i.invariant.0 (omega arith) c.with_group-result-in-loop-i.result c.with_group-result-in-loop-i.ensures.value c.if-byte-lt128.false,
+  c.with_group-result-in-loop-i.ensures.fits,
 )
+
+pub returns-then-first-lt128 : goal.returns-then-first-lt128
+returns-then-first-lt128 g c =
+    gave (λ x. x) _ _ _
+    (shown_one _ _ c.in-Some.ensures.0 c.in-Some.ensures.1 c.if-first-lt128.true ∙ ap (λ a. gives (get_or c.in-Some.bytes.now 0 0) a) (sym c.pass.ensures))
 
 pub returns-then-last-gt1 : goal.returns-then-last-gt1
 returns-then-last-gt1 g c =
     refused (λ x. x) _ _ _
     (shown_refuses _ _ c.in-Some.ensures.0 c.in-Some.ensures.1 c.loop-i.i c.loop-i.result c.loop-i.invariant.0 (omega arith) c.if-last-gt1.true
-    ∙ ap (λ a. refuses 8 0 a) (sym c.pass.ensures))
+    ∙ ap (λ a. refuses 8 0 a) (sym c.pass-then-last-gt1.ensures))
 
 pub returns : goal.returns
 returns g c =
@@ -28,7 +36,7 @@ returns g c =
     let read : unsigned m ≡ gives value.0 (past value.1 m) =
     elim c.loop-i-test.branch [
       | then-loop-i-test+then-byte-lt128 w ↦
-          shown_ends _ _ c.in-Some.ensures.0 c.in-Some.ensures.1 c.loop-i.i c.loop-i.result c.loop-i.invariant.0 w.loop-i-test.true w.with_group-result.result w.with_group-result.ensures.value w.if-byte-lt128.true
+          shown_ends _ _ c.in-Some.ensures.0 c.in-Some.ensures.1 c.loop-i.i c.loop-i.result c.loop-i.invariant.0 w.loop-i-test.true w.with_group-result-in-loop-i.result w.with_group-result-in-loop-i.ensures.value w.if-byte-lt128.true
           ∙ ap (λ p. gives p.0 (past p.1 m)) (sym w.value-is)
       | else-loop-i-test+else-last-gt1 w ↦
           shown_tenth _ _ c.in-Some.ensures.0 c.in-Some.ensures.1 c.loop-i.i c.loop-i.result c.loop-i.invariant.0 (omega (arith, w.loop-i-test.false, c.loop-i.auto.i-end)) w.if-last-gt1.false c.loop-i.invariant.1
