@@ -38,29 +38,31 @@ pub fn read_uleb128<R: Reader>(reader: &mut R) -> Result<u64, Error>
         return read_by_bytes(reader);
     };
     let first = bytes[0];
-    // most numbers have one byte
-    if first < 0x80 {
-        pass(reader, 1);
-        return Ok(first as u64);
-    }
-    let mut result = with_group(0, first, 0);
-    let (value, len) = 'value: {
-        for i in 1..9u32 {
-            let byte = bytes[i as usize];
-            result = with_group(result, byte, i);
-            if byte < 0x80 {
-                break 'value (result, i + 1);
-            }
-        }
-        let last = bytes[9];
-        if last > 0x01 {
-            pass(reader, 10);
-            return Err(Error::BadUnsignedLeb128);
-        }
-        (result | (last as u64) << 63, 10)
-    };
-    pass(reader, len);
     // one `Ok` for all lengths: where each has its own, a caller's compiled code may join the number byte by byte
+    let value = if first < 0x80 {
+        // by itself, since most numbers have one byte
+        pass(reader, 1);
+        first as u64
+    } else {
+        let mut result = with_group(0, first, 0);
+        let (value, len) = 'value: {
+            for i in 1..9u32 {
+                let byte = bytes[i as usize];
+                result = with_group(result, byte, i);
+                if byte < 0x80 {
+                    break 'value (result, i + 1);
+                }
+            }
+            let last = bytes[9];
+            if last > 0x01 {
+                pass(reader, 10);
+                return Err(Error::BadUnsignedLeb128);
+            }
+            (result | (last as u64) << 63, 10)
+        };
+        pass(reader, len);
+        value
+    };
     Ok(value)
 }
 

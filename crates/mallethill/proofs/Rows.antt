@@ -2,9 +2,9 @@
 use Rattle.std.proofs.Common.{◌≡◌, ℕ, zero, suc, ◌+◌, ◌-◌, ◌<◌, ◌≤◌, Bool, true, false, cond, eqb, List, [], ◌∷◌, ◌++◌, length, Ok, Err, refl, sym, ap, ◌∙◌, arith, append_assoc, append-nil}
 use Rattle.readers.specs.declared.error.Error.{Error}
 use Rattle.readers.specs.Outcome.{Outcome, answer, fault}
-use Rattle.readers.specs.Reading.{Meaning}
+use Rattle.readers.specs.Reading.{Meaning, at}
 use Rattle.readers.specs.Links.{Did, fault_is}
-use Rattle.leb128.specs.Leb128.{unsigned}
+use Rattle.leb128.specs.Leb128.{unsigned, spelling}
 use Rattle.mallethill.specs.declared.fault.Fault.{Fault}
 use Rattle.mallethill.specs.Told.{none, told}
 use Rattle.mallethill.specs.Numbers.{Row, ended_at, with_number, row}
@@ -45,3 +45,12 @@ row_full n k m h = let z : n - k ≡ 0 = omega arith in ap (λ (i : ℕ). row i 
 -- where nothing stands behind them
 pub behind_end : (done : List ℕ) (m : Meaning) (f : Fault) → behind done (ended_at m f) ≡ record { numbers = done; taken = m.id; ended = f }
 behind_end done m f = ap (λ (ns : List ℕ). record { numbers = ns; taken = m.id; ended = f }) (append-nil done)
+
+-- a number that was read had a byte
+some_by : (rs : List ℕ) (m a : Meaning) (x : ℕ) → Did (λ (y : ℕ). y) (Ok x) a (unsigned (at m.id rs m)) → eqb (length rs) 0 ≡ false
+unfolding spelling
+some_by [] m a x d = let z : ◌≡◌ {A = ℕ} 0 1 = cc d.answers in absurd (grind arith)
+some_by (r ∷ rs) m a x d = grind arith
+
+pub read_some : (m a : Meaning) (x : ℕ) → Did (λ (y : ℕ). y) (Ok x) a (unsigned m) → eqb (length m.rest) 0 ≡ false
+read_some m a x d = some_by m.rest m a x d

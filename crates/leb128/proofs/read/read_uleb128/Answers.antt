@@ -29,8 +29,8 @@ returns-then-last-gt1 g c =
     (shown_refuses _ _ c.in-Some.ensures.0 c.in-Some.ensures.1 c.loop-i.i c.loop-i.result c.loop-i.invariant.0 (omega arith) c.if-last-gt1.true
     ∙ ap (λ a. refuses 8 0 a) (sym c.pass-then-last-gt1.ensures))
 
-pub returns : goal.returns
-returns g c =
+pub returns-after-loop-i : goal.returns-after-loop-i
+returns-after-loop-i g c =
     let m = g.R.Reader.means c.args.reader.now in
     let value = c.loop-i-test.value in
     let read : unsigned m ≡ gives value.0 (past value.1 m) =
@@ -39,7 +39,7 @@ returns g c =
           shown_ends _ _ c.in-Some.ensures.0 c.in-Some.ensures.1 c.loop-i.i c.loop-i.result c.loop-i.invariant.0 w.loop-i-test.true w.with_group-result-in-loop-i.result w.with_group-result-in-loop-i.ensures.value w.if-byte-lt128.true
           ∙ ap (λ p. gives p.0 (past p.1 m)) (sym w.value-is)
       | else-loop-i-test+else-last-gt1 w ↦
-          shown_tenth _ _ c.in-Some.ensures.0 c.in-Some.ensures.1 c.loop-i.i c.loop-i.result c.loop-i.invariant.0 (omega (arith, w.loop-i-test.false, c.loop-i.auto.i-end)) w.if-last-gt1.false c.loop-i.invariant.1
+          shown_tenth _ _ c.in-Some.ensures.0 c.in-Some.ensures.1 c.loop-i.i c.loop-i.result c.loop-i.invariant.0 (let most = c.loop-i.auto.i-end (omega arith) in omega (arith, w.loop-i-test.false)) w.if-last-gt1.false c.loop-i.invariant.1
           ∙ ap (λ p. gives p.0 (past p.1 m)) (sym w.value-is)
     ] in
-    gave (λ x. x) _ _ _ (read ∙ ap (λ a. gives c.loop-i-test.value.0 a) (sym c.pass-2.ensures))
+    gave (λ x. x) _ _ _ (read ∙ ap (λ a. gives c.loop-i-test.value.0 a) (sym c.pass-else-first-lt128.ensures))
