@@ -53,12 +53,12 @@ pub fn read_uleb128<R: Reader>(reader: &mut R) -> Result<u64, Error>
                     break 'value (result, i + 1);
                 }
             }
-            let last = bytes[9];
-            if last > 0x01 {
+            let tenth = bytes[9];
+            if tenth > 0x01 {
                 pass(reader, 10);
                 return Err(Error::BadUnsignedLeb128);
             }
-            (result | (last as u64) << 63, 10)
+            (result | (tenth as u64) << 63, 10)
         };
         pass(reader, len);
         value

@@ -3,7 +3,7 @@ use Rattle.readers.specs.Reading.{past, gives, refuses}
 use Rattle.leb128.specs.Leb128.{unsigned}
 use Rattle.readers.proofs.Steps.{gave, refused}
 use Rattle.leb128.proofs.Ahead.{shown_one, shown_first, shown_goes_on, shown_ends, shown_tenth, shown_refuses}
-use Rattle.leb128.proofs.read.read_uleb128.Goals.{then-loop-i-test+then-byte-lt128, else-loop-i-test+else-last-gt1}
+use Rattle.leb128.proofs.read.read_uleb128.Goals.{then-loop-i-test+then-byte-lt128, else-loop-i-test+else-tenth-gt1}
 use Rattle.leb128.proofs.read.read_uleb128.Goals as goal
 
 pub loop-i-init : goal.loop-i-init
@@ -23,11 +23,11 @@ returns-then-first-lt128 g c =
     gave (λ x. x) _ _ _
     (shown_one _ _ c.in-Some.ensures.0 c.in-Some.ensures.1 c.if-first-lt128.true ∙ ap (λ a. gives (get_or c.in-Some.bytes.now 0 0) a) (sym c.pass.ensures))
 
-pub returns-then-last-gt1 : goal.returns-then-last-gt1
-returns-then-last-gt1 g c =
+pub returns-then-tenth-gt1 : goal.returns-then-tenth-gt1
+returns-then-tenth-gt1 g c =
     refused (λ x. x) _ _ _
-    (shown_refuses _ _ c.in-Some.ensures.0 c.in-Some.ensures.1 c.loop-i.i c.loop-i.result c.loop-i.invariant.0 (omega arith) c.if-last-gt1.true
-    ∙ ap (λ a. refuses 8 0 a) (sym c.pass-then-last-gt1.ensures))
+    (shown_refuses _ _ c.in-Some.ensures.0 c.in-Some.ensures.1 c.loop-i.i c.loop-i.result c.loop-i.invariant.0 (omega arith) c.if-tenth-gt1.true
+    ∙ ap (λ a. refuses 8 0 a) (sym c.pass-then-tenth-gt1.ensures))
 
 pub returns-after-loop-i : goal.returns-after-loop-i
 returns-after-loop-i g c =
@@ -38,8 +38,8 @@ returns-after-loop-i g c =
       | then-loop-i-test+then-byte-lt128 w ↦
           shown_ends _ _ c.in-Some.ensures.0 c.in-Some.ensures.1 c.loop-i.i c.loop-i.result c.loop-i.invariant.0 w.loop-i-test.true w.with_group-result-in-loop-i.result w.with_group-result-in-loop-i.ensures.value w.if-byte-lt128.true
           ∙ ap (λ p. gives p.0 (past p.1 m)) (sym w.value-is)
-      | else-loop-i-test+else-last-gt1 w ↦
-          shown_tenth _ _ c.in-Some.ensures.0 c.in-Some.ensures.1 c.loop-i.i c.loop-i.result c.loop-i.invariant.0 (let most = c.loop-i.auto.i-end (omega arith) in omega (arith, w.loop-i-test.false)) w.if-last-gt1.false c.loop-i.invariant.1
+      | else-loop-i-test+else-tenth-gt1 w ↦
+          shown_tenth _ _ c.in-Some.ensures.0 c.in-Some.ensures.1 c.loop-i.i c.loop-i.result c.loop-i.invariant.0 (let most = c.loop-i.auto.i-end (omega arith) in omega (arith, w.loop-i-test.false)) w.if-tenth-gt1.false c.loop-i.invariant.1
           ∙ ap (λ p. gives p.0 (past p.1 m)) (sym w.value-is)
     ] in
     gave (λ x. x) _ _ _ (read ∙ ap (λ a. gives c.loop-i-test.value.0 a) (sym c.pass-else-first-lt128.ensures))
