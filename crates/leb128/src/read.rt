@@ -81,6 +81,7 @@ fn read_by_bytes<R: Reader>(reader: &mut R) -> Result<u64, Error>
     // Its own loop, and read_sleb128's: one function for both, which answers the bits and the last byte, was tried, and
     // numbers of one byte took four times as long.
     let mut result = 0u64;
+    // one `Ok`, as above
     let value = 'value: {
         for i in 0..9u32 {
             let byte = read_u8(reader)?;

@@ -1,4 +1,4 @@
-use Rattle.std.proofs.Common.{◌≡◌, ◌+◌, ◌^◌, ◌<◌, ◌≤◌, get_or, sym, ap, ◌∙◌, arith}
+use Rattle.std.proofs.Common.{◌≡◌, get_or, sym, ap, ◌∙◌, arith}
 use Rattle.readers.specs.Reading.{past, gives, refuses}
 use Rattle.leb128.specs.Leb128.{unsigned}
 use Rattle.readers.proofs.Steps.{gave, refused}

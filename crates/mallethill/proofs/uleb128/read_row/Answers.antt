@@ -1,6 +1,5 @@
-use Rattle.std.proofs.Common.{◌≡◌, ℕ, ◌+◌, ◌-◌, ◌<◌, List, [], ◌∷◌, ◌++◌, false, length, eqb, set, sym, ap, ◌∙◌, arith, length-append}
-use Rattle.readers.specs.Links.{fault_is}
-use Rattle.mallethill.specs.Told.{none, told, filled}
+use Rattle.std.proofs.Common.{◌≡◌, ℕ, ◌+◌, ◌-◌, ◌<◌, List, [], ◌∷◌, ◌++◌, length, set, sym, ap, ◌∙◌, arith, length-append}
+use Rattle.mallethill.specs.Told.{none, filled}
 use Rattle.mallethill.specs.Numbers.{Row, ended_at, row, counted}
 use Rattle.mallethill.proofs.Fills.{filled_more}
 use Rattle.mallethill.proofs.Rows.{behind, behind_number, behind_end, row_more, row_fault, row_empty, row_full, read_some}
@@ -20,8 +19,8 @@ returns-in-Err g c =
     elim c.if-ends.branch [
       | then-ends w ↦ row_empty (n - k) m (sym c.is_empty-ends.ensures ∙ w.if-ends.true) ∙ ap (ended_at m) (sym w.fault-is)
       | else-ends w ↦
-        row_fault n k m a c.in-Err.error lt (sym c.is_empty-ends.ensures ∙ w.if-ends.false) c.in-Err.ensures
-        ∙ ap (ended_at m) (sym (w.fault-is ∙ w.from-fault.ensures))
+          row_fault n k m a c.in-Err.error lt (sym c.is_empty-ends.ensures ∙ w.if-ends.false) c.in-Err.ensures
+          ∙ ap (ended_at m) (sym (w.fault-is ∙ w.from-fault.ensures))
     ] in
     let all = i.3 ∙ ap (behind i.0) end ∙ behind_end i.0 m f in
     record {
