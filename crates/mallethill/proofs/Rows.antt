@@ -2,9 +2,9 @@
 use Rattle.std.proofs.Common.{◌≡◌, ℕ, zero, suc, ◌+◌, ◌-◌, ◌<◌, ◌≤◌, Bool, true, false, cond, eqb, List, [], ◌∷◌, ◌++◌, length, Ok, Err, refl, sym, ap, ◌∙◌, arith, append_assoc, append-nil}
 use Rattle.readers.specs.declared.error.Error.{Error}
 use Rattle.readers.specs.Outcome.{Outcome, answer, fault}
-use Rattle.readers.specs.Reading.{Meaning}
+use Rattle.readers.specs.Reading.{Meaning, at}
 use Rattle.readers.specs.Links.{Did, fault_is}
-use Rattle.leb128.specs.Leb128.{unsigned}
+use Rattle.leb128.specs.Leb128.{unsigned, spelling}
 use Rattle.mallethill.specs.declared.fault.Fault.{Fault}
 use Rattle.mallethill.specs.Told.{none, told}
 use Rattle.mallethill.specs.declared.header.SetHeader.{SetHeader}
@@ -67,3 +67,12 @@ headers_end section big (suc n) p e = ap (λ (t : Bool). headers_by section big 
 
 pub headers_full : (section : List ℕ) (big : Bool) (n k p : ℕ) → n ≤ k → headers_from section big (n - k) p ≡ ended_at p none
 headers_full section big n k p h = let z : n - k ≡ 0 = omega arith in ap (λ (i : ℕ). headers_from section big i p) z
+
+-- a number that was read had a byte
+some_by : (rs : List ℕ) (m a : Meaning) (x : ℕ) → Did (λ (y : ℕ). y) (Ok x) a (unsigned (at m.id rs m)) → eqb (length rs) 0 ≡ false
+unfolding spelling
+some_by [] m a x d = let z : ◌≡◌ {A = ℕ} 0 1 = cc d.answers in absurd (grind arith)
+some_by (r ∷ rs) m a x d = grind arith
+
+pub read_some : (m a : Meaning) (x : ℕ) → Did (λ (y : ℕ). y) (Ok x) a (unsigned m) → eqb (length m.rest) 0 ≡ false
+read_some m a x d = some_by m.rest m a x d

@@ -42,13 +42,20 @@ fn read_row<R: Reader>(mut reader: R, numbers: &mut [u64]) -> (NumbersRead, Faul
     ensures numbers { numbers.new ≡ filled numbers.old (row (length numbers.old) (R.Reader.means reader)).items }
 {
     let mut count = 0usize;
-    while count < numbers.len() && !is_empty(&reader) {
+    while count < numbers.len() {
         let taken = reader.offset_id().0;
+        // asked before the read, used only where it is refused: a test in each turn costs time
+        let ends = is_empty(&reader);
         match read_uleb128(&mut reader) {
             Ok(number) => numbers[count] = number,
             Err(error) => {
                 let count = count as u64;
-                return (NumbersRead { count, taken }, Fault::from(error));
+                let fault = if ends {
+                    Fault::NONE
+                } else {
+                    Fault::from(error)
+                };
+                return (NumbersRead { count, taken }, fault);
             }
         }
         count += 1;
