@@ -26,7 +26,7 @@ struct Found {
 }
 
 #[repr(C)]
-#[derive(Default)]
+#[derive(Clone, Copy, Default)]
 struct Header {
     offset: u64,
     length: u64,
@@ -35,6 +35,13 @@ struct Header {
     version: u16,
     address_size: u8,
     word_size: u8,
+}
+
+#[repr(C)]
+#[derive(Default)]
+struct Headers {
+    count: u64,
+    next: u64,
 }
 
 #[repr(C)]
@@ -60,7 +67,15 @@ struct Numbers {
 
 extern "C" {
     fn mallethill_lookup(section: *const u8, len: usize, big: bool, address: u64, answer: &mut Found) -> Fault;
-    fn mallethill_header(section: *const u8, len: usize, big: bool, offset: u64, answer: &mut Header) -> Fault;
+    fn mallethill_headers(
+        section: *const u8,
+        len: usize,
+        big: bool,
+        offset: u64,
+        headers: *mut Header,
+        headers_len: usize,
+        answer: &mut Headers,
+    ) -> Fault;
     fn mallethill_ranges(
         section: *const u8,
         len: usize,
@@ -83,6 +98,7 @@ extern "C" {
 struct Bench {
     bytes: Vec<u8>,
     big: bool,
+    headers: Vec<Header>,
     ranges: Vec<Range>,
     numbers: Vec<u64>,
 }
@@ -92,6 +108,7 @@ impl Bench {
         Bench {
             bytes: black_box(bytes),
             big: black_box(big),
+            headers: vec![Header::default(); 64],
             ranges: vec![Range::default(); 1024],
             numbers: vec![0; 1024],
         }
@@ -109,31 +126,51 @@ impl Bench {
         DebugAranges::from(EndianSlice::new(&self.bytes, self.endian()))
     }
 
-    /// The header at an offset.
-    fn header(&self, offset: u64) -> Header {
-        let mut header = Header::default();
-        let fault =
-            unsafe { mallethill_header(self.bytes.as_ptr(), self.bytes.len(), self.big, offset, &mut header) };
-        assert_eq!((fault.number, fault.payload), (0, 0));
-        header
+    /// The headers from an offset on, as many as there is room for; how many, and the offset behind them.
+    fn read_headers(&mut self, offset: u64) -> Headers {
+        let mut read = Headers::default();
+        let (headers, room) = (self.headers.as_mut_ptr(), self.headers.len());
+        let fault = unsafe {
+            mallethill_headers(self.bytes.as_ptr(), self.bytes.len(), self.big, offset, headers, room, &mut read)
+        };
+        assert_eq!(fault.number, 0);
+        read
     }
 
     fn headers_ours(&mut self) -> u64 {
         let (mut sum, mut offset) = (0u64, 0);
         while offset < self.bytes.len() as u64 {
-            let header = self.header(offset);
-            sum = sum.wrapping_add(header.offset ^ header.debug_info_offset);
-            offset = header.next;
+            let read = self.read_headers(offset);
+            sum = sum.wrapping_add(digest(&self.headers[..read.count as usize]));
+            offset = read.next;
         }
         sum
     }
 
     fn headers_gimli(&mut self) -> u64 {
         let mut sum = 0u64;
+        let mut room = std::mem::take(&mut self.headers);
         let mut headers = self.gimlis().headers();
+        let mut count = 0;
         while let Some(header) = headers.next().unwrap() {
-            sum = sum.wrapping_add(header.offset().0 as u64 ^ header.debug_info_offset().0 as u64);
+            let encoding = header.encoding();
+            room[count] = Header {
+                offset: header.offset().0 as u64,
+                length: header.length() as u64,
+                debug_info_offset: header.debug_info_offset().0 as u64,
+                next: 0,
+                version: encoding.version,
+                address_size: encoding.address_size,
+                word_size: encoding.format.word_size(),
+            };
+            count += 1;
+            if count == room.len() {
+                sum = sum.wrapping_add(digest(&room));
+                count = 0;
+            }
         }
+        sum = sum.wrapping_add(digest(&room[..count]));
+        self.headers = room;
         sum
     }
 
@@ -141,15 +178,18 @@ impl Bench {
     fn tuples_ours(&mut self) -> u64 {
         let (mut sum, mut offset) = (0u64, 0);
         while offset < self.bytes.len() as u64 {
-            let header = self.header(offset);
-            let mut read = Ranges::default();
-            let fault = unsafe {
-                let (ranges, room) = (self.ranges.as_mut_ptr(), self.ranges.len());
-                mallethill_ranges(self.bytes.as_ptr(), self.bytes.len(), self.big, offset, ranges, room, &mut read)
-            };
-            assert_eq!(fault.number, 0);
-            sum = sum.wrapping_add(read.count ^ self.ranges[read.count as usize - 1].end);
-            offset = header.next;
+            let headers = self.read_headers(offset);
+            for place in 0..headers.count as usize {
+                let mut read = Ranges::default();
+                let set = self.headers[place].offset;
+                let fault = unsafe {
+                    let (ranges, room) = (self.ranges.as_mut_ptr(), self.ranges.len());
+                    mallethill_ranges(self.bytes.as_ptr(), self.bytes.len(), self.big, set, ranges, room, &mut read)
+                };
+                assert_eq!(fault.number, 0);
+                sum = sum.wrapping_add(read.count ^ self.ranges[read.count as usize - 1].end);
+            }
+            offset = headers.next;
         }
         sum
     }
@@ -249,6 +289,11 @@ impl Bench {
         }
         sum
     }
+}
+
+/// Something of each header, so that both sides have to have read them.
+fn digest(headers: &[Header]) -> u64 {
+    headers.iter().fold(0, |sum, header| sum.wrapping_add(header.offset ^ header.debug_info_offset))
 }
 
 fn holds(entry: &ArangeEntry, address: u64) -> bool {

@@ -14,19 +14,23 @@ pub record Listed : Type 0 where
   pub ranges : List AddressRange
   pub passed : ℕ
 
+-- of no tuples
 abbrev pub nothing_listed : Listed
 nothing_listed = record { ranges = []; passed = 0 }
 
+-- the range of an entry
 abbrev pub range_of : Entry → AddressRange
 range_of e = record { begin = e.begin; end = e.end }
 
+-- with one more in front
 abbrev pub with_range : Entry → Listed → Listed
 with_range e l = record { ranges = range_of e ∷ l.ranges; passed = l.passed }
 
+-- with one more faulty tuple
 abbrev pub with_fault : Listed → Listed
 with_fault l = record { ranges = l.ranges; passed = l.passed + 1 }
 
--- over n tuples of addresses of s bytes, from the reader on
+-- over n tuples of addresses of s bytes, from the reader on; only relocation refuses one, and ends its set
 abbrev pub listed : ℕ → ℕ → Meaning → Listed
 listed s zero m = nothing_listed
 listed s (suc n) m =
@@ -37,6 +41,7 @@ listed s (suc n) m =
       | refused f ↦ with_fault nothing_listed
     ]
 
+-- over all tuples that are left
 abbrev pub listed_on : Left → Listed
 listed_on l = listed l.size (count l.size l.tuples) l.tuples
 

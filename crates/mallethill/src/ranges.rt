@@ -1,14 +1,14 @@
 // The ranges of a set.
 ghost use Rattle.std.specs.Prelude.{◌≡◌, ◌^◌, ◌<◌, length};
 ghost use Rattle.readers.specs.Links.{outcome_is};
-ghost use Rattle.aranges.specs.Links.{header_is};
+ghost use Rattle.aranges.specs.Links.{header_is, entries_is};
 ghost use Rattle.aranges.specs.Iterators.{entries_of};
 ghost use Rattle.mallethill.specs.Told.{returned, held, filled, outcome_map};
 ghost use Rattle.mallethill.specs.Ranges.{listed_on, listed_at, counted};
 
 use crate::fault::{Fault, settle};
 use crate::header::open_set;
-use aranges::ArangeHeader;
+use aranges::{ArangeEntryIter, ArangeHeader};
 use readers::{AddressReader, Error, Reader};
 
 /// The addresses from `begin` on, up to `end` and without it.
@@ -43,6 +43,7 @@ pub extern "C" fn mallethill_ranges(
     settle(read_set(section, big_endian, offset, ranges), answer)
 }
 
+// The same as a result; only where the header is read does it write.
 fn read_set(
     section: &[u8],
     big_endian: bool,
@@ -56,7 +57,7 @@ fn read_set(
     Ok(read_ranges(&header, ranges))
 }
 
-// The ranges of a set: one pass, which writes while there is room and counts on.
+// The ranges of a set.
 fn read_ranges<R: AddressReader>(
     header: &ArangeHeader<R>,
     ranges: &mut [AddressRange],
@@ -65,7 +66,24 @@ fn read_ranges<R: AddressReader>(
     ensures answer { result ≡ counted (listed_on (entries_of (header_is R.Reader.means R.Offset.ReaderOffset.number header.now))) }
     ensures ranges { ranges.new ≡ filled ranges.old (listed_on (entries_of (header_is R.Reader.means R.Offset.ReaderOffset.number header.now))).ranges }
 {
-    let mut entries = header.entries();
+    // for speed, a loop of its own for each of the usual sizes
+    match header.encoding().address_size {
+        4 => read_entries(header.entries_sized(4), ranges),
+        8 => read_entries(header.entries_sized(8), ranges),
+        _ => read_entries(header.entries(), ranges),
+    }
+}
+
+// The ranges of the tuples that are left: one pass, which writes while there is room and counts on.
+#[inline(always)]
+fn read_entries<R: AddressReader>(
+    mut entries: ArangeEntryIter<R>,
+    ranges: &mut [AddressRange],
+) -> RangesRead
+    requires { length (R.Reader.means entries.input).rest < 2 ^ 64 }
+    ensures answer { result ≡ counted (listed_on (entries_is R.Reader.means entries)) }
+    ensures ranges { ranges.new ≡ filled ranges.old (listed_on (entries_is R.Reader.means entries)).ranges }
+{
     let mut count = 0usize;
     let mut passed = 0u64;
     loop {

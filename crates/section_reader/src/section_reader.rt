@@ -198,10 +198,12 @@ impl<O: ReaderOffset> Reader for SectionReader<'_, O> {
 }
 
 impl<O: ReaderOffset> AddressReader for SectionReader<'_, O> {
+    #[inline(always)]
     fn read_address(&mut self, address_size: u8) -> Result<u64, Error> {
         read_plain_address(self, address_size)
     }
 
+    #[inline(always)]
     fn read_offset(&mut self, format: Format) -> Result<O, Error> {
         read_word(self, format)
     }

@@ -1,3 +1,4 @@
+-- A set that is read lies in the section.
 use Rattle.std.proofs.Common.{◌^◌, ◌≡◌, length, ap, ◌∙◌}
 use Rattle.readers.specs.Reading.{Meaning, plain}
 use Rattle.section_reader.specs.Means.{section_means}
