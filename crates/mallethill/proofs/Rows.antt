@@ -49,6 +49,15 @@ row_empty (suc n) m e = ap (λ (t : Bool). row_by n m t (unsigned m).outcome (un
 pub row_full : (n k : ℕ) (m : Meaning) → n ≤ k → row (n - k) m ≡ ended_at m.id none
 row_full n k m h = let z : n - k ≡ 0 = omega arith in ap (λ (i : ℕ). row i m) z
 
+-- a number that was read had a byte
+some_by : (rs : List ℕ) (m a : Meaning) (x : ℕ) → Did (λ (y : ℕ). y) (Ok x) a (unsigned (at m.id rs m)) → eqb (length rs) 0 ≡ false
+unfolding spelling
+some_by [] m a x d = let z : ◌≡◌ {A = ℕ} 0 1 = cc d.answers in absurd (grind arith)
+some_by (r ∷ rs) m a x d = grind arith
+
+pub read_some : (m a : Meaning) (x : ℕ) → Did (λ (y : ℕ). y) (Ok x) a (unsigned m) → eqb (length m.rest) 0 ≡ false
+read_some m a x d = some_by m.rest m a x d
+
 abbrev headers_by : List ℕ → Bool → ℕ → ℕ → Bool → Outcome SetHeader → Row SetHeader
 headers_by section big n p e o =
     cond e (ended_at p none) (elim o [ answer h ↦ with_item h (headers_from section big n h.next) | fault f ↦ ended_at p (told f) ])
@@ -67,12 +76,3 @@ headers_end section big (suc n) p e = ap (λ (t : Bool). headers_by section big 
 
 pub headers_full : (section : List ℕ) (big : Bool) (n k p : ℕ) → n ≤ k → headers_from section big (n - k) p ≡ ended_at p none
 headers_full section big n k p h = let z : n - k ≡ 0 = omega arith in ap (λ (i : ℕ). headers_from section big i p) z
-
--- a number that was read had a byte
-some_by : (rs : List ℕ) (m a : Meaning) (x : ℕ) → Did (λ (y : ℕ). y) (Ok x) a (unsigned (at m.id rs m)) → eqb (length rs) 0 ≡ false
-unfolding spelling
-some_by [] m a x d = let z : ◌≡◌ {A = ℕ} 0 1 = cc d.answers in absurd (grind arith)
-some_by (r ∷ rs) m a x d = grind arith
-
-pub read_some : (m a : Meaning) (x : ℕ) → Did (λ (y : ℕ). y) (Ok x) a (unsigned m) → eqb (length m.rest) 0 ≡ false
-read_some m a x d = some_by m.rest m a x d
