@@ -122,10 +122,10 @@ static void rows_of_headers(void) {
 
 static void ranges(void) {
     struct mallethill_range room[3] = {{1, 1}, {1, 1}, {1, 1}};
-    struct mallethill_ranges read = {9, 9};
+    struct mallethill_ranges read = {9, 9, 9, 9};
     // more room than ranges: what is behind them stays
     CHECK(no_fault(mallethill_ranges(section, sizeof section, false, 0, room, 3, &read)));
-    CHECK(read.count == 2 && read.passed == 1);
+    CHECK(read.count == 2 && read.passed == 1 && read.debug_info_offset == 0x10 && read.next == 48);
     CHECK(room[0].begin == 0x1000 && room[0].end == 0x1020);
     CHECK(room[1].begin == 0x2000 && room[1].end == 0x2001);
     CHECK(room[2].begin == 1 && room[2].end == 1);
@@ -136,6 +136,7 @@ static void ranges(void) {
     CHECK(one[0].begin == 0x1000 && one[1].begin == 1);
     CHECK(no_fault(mallethill_ranges(section, sizeof section, false, 48, one, 0, &read)));
     CHECK(read.count == 1 && read.passed == 0 && one[0].begin == 0x1000);
+    CHECK(read.debug_info_offset == 0x20 && read.next == sizeof section);
     // a fault: both places as they were
     CHECK(is_fault(mallethill_ranges(section, 47, false, 0, room, 3, &read), MALLETHILL_UNEXPECTED_EOF, 4));
     CHECK(read.count == 1 && read.passed == 0 && room[0].begin == 0x1000);

@@ -72,10 +72,12 @@ struct mallethill_range {
     uint64_t end;
 };
 
-// How many ranges a set has, and how many faulty tuples were passed.
+// What a set has.
 struct mallethill_ranges {
-    uint64_t count;
-    uint64_t passed;
+    uint64_t count;             // how many ranges, with room for them or without
+    uint64_t passed;            // how many faulty tuples were passed
+    uint64_t debug_info_offset; // of the unit, in .debug_info
+    uint64_t next;              // the offset behind the set
 };
 
 // The ranges of the set at an offset of a section. The first `ranges_len` are written, and all are counted.

@@ -6,7 +6,7 @@ ghost use Rattle.aranges.specs.Sets.{header_past};
 ghost use Rattle.readers.specs.Reading.{plain};
 ghost use Rattle.section_reader.specs.Means.{section_means};
 ghost use Rattle.mallethill.specs.Told.{returned, held, filled};
-ghost use Rattle.mallethill.specs.Headers.{header_at, headers_from, counted, Within};
+ghost use Rattle.mallethill.specs.Headers.{fields_of, header_at, headers_from, counted, Within};
 
 use crate::fault::{Fault, settle};
 use crate::section::open;
@@ -102,10 +102,27 @@ fn read_headers(
 fn read_header(section: &[u8], big_endian: bool, offset: u64) -> Result<SetHeader, Error>
     ensures { outcome_is (λ x. x) result ≡ header_at section.now big_endian offset }
 {
-    let header = open_set(section, big_endian, offset)?;
+    Ok(open_set(section, big_endian, offset)?.fields)
+}
+
+/// A set of a section: its header, and what C is told of it.
+#[derive(Drop)]
+pub struct OpenSet<'a> {
+    pub header: ArangeHeader<EndianSlice<'a>>,
+    pub fields: SetHeader,
+}
+
+/// The set at an offset of a section.
+#[inline(always)]
+pub fn open_set(section: &[u8], big_endian: bool, offset: u64) -> Result<OpenSet<'_>, Error>
+    ensures reads { outcome_is (λ s. header_is section_means (λ x. x) s.header) result ≡ header_past (2 ^ 64) offset (plain 0 section.now big_endian) }
+    ensures fields { IfOk result (λ s. s.fields ≡ fields_of (header_is section_means (λ x. x) s.header)) }
+    ensures inside { IfOk result (λ s. Within (length section.now) (header_is section_means (λ x. x) s.header)) }
+{
+    let header = header_within(section, big_endian, offset)?;
     let encoding = header.encoding();
     let size = encoding.format.initial_length_size() as u64 + header.length() as u64;
-    Ok(SetHeader {
+    let fields = SetHeader {
         offset: header.offset().0,
         length: header.length() as u64,
         debug_info_offset: header.debug_info_offset().0 as u64,
@@ -113,12 +130,13 @@ fn read_header(section: &[u8], big_endian: bool, offset: u64) -> Result<SetHeade
         version: encoding.version,
         address_size: encoding.address_size,
         word_size: encoding.format.word_size(),
-    })
+    };
+    Ok(OpenSet { header, fields })
 }
 
-/// The set at an offset of a section, in which it lies.
+// The header of a set, which lies in its section.
 #[inline(always)]
-pub fn open_set(
+fn header_within(
     section: &[u8],
     big_endian: bool,
     offset: u64,

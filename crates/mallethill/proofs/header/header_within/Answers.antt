@@ -4,7 +4,7 @@ use Rattle.readers.specs.Reading.{Meaning, plain}
 use Rattle.section_reader.specs.Means.{section_means}
 use Rattle.aranges.specs.Links.{header_is}
 use Rattle.mallethill.proofs.Spans.{inside}
-use Rattle.mallethill.proofs.header.open_set.Goals as goal
+use Rattle.mallethill.proofs.header.header_within.Goals as goal
 
 pub returns-clause-inside : goal.returns-clause-inside
 returns-clause-inside c =
