@@ -14,7 +14,7 @@ use numbers::{
 };
 use readers::{
     AddressReader, DebugArangesOffset, DebugInfoOffset, Encoding, Error, Format, Reader,
-    ReaderOffset,
+    ReaderOffset, ReaderOffsetId,
 };
 
 /// A `.debug_aranges` section.
@@ -69,6 +69,14 @@ pub struct ArangeHeaderIter<R: AddressReader> {
 }
 
 impl<R: AddressReader> ArangeHeaderIter<R> {
+    /// The place of the next set in the section.
+    #[inline(always)]
+    pub fn offset(&self) -> DebugArangesOffset<u64>
+        ensures { result.0 ≡ (R.Reader.means self.now.input).id - self.now.start }
+    {
+        DebugArangesOffset(self.input.offset_id().0.saturating_sub(self.start))
+    }
+
     /// The next header; a fault leaves no more.
     #[inline(always)]
     pub fn next(&mut self) -> Result<Option<ArangeHeader<R>>, Error>
@@ -78,9 +86,9 @@ impl<R: AddressReader> ArangeHeaderIter<R> {
         if is_empty(&self.input) {
             return Ok(None);
         }
-        let offset = self.input.offset_id().0.saturating_sub(self.start);
+        let offset = self.offset();
         // for speed, a match: `or_empty` and `map` copy the header, and take 33 ns a set where this takes 18
-        match ArangeHeader::parse(&mut self.input, DebugArangesOffset(offset)) {
+        match ArangeHeader::parse(&mut self.input, offset) {
             Ok(header) => Ok(Some(header)),
             Err(error) => {
                 self.input.empty();
@@ -283,6 +291,13 @@ pub struct ArangeEntryIter<R: AddressReader> {
 }
 
 impl<R: AddressReader> ArangeEntryIter<R> {
+    /// The id of the next tuple's first byte.
+    pub fn offset_id(&self) -> ReaderOffsetId
+        ensures { result.0 ≡ (R.Reader.means self.now.input).id }
+    {
+        self.input.offset_id()
+    }
+
     /// The next tuple that answers a range. An `AddressOverflow` of a tuple's end passes that tuple only.
     #[inline(always)]
     pub fn next(&mut self) -> Result<Option<ArangeEntry>, Error>
