@@ -1,5 +1,4 @@
-//! Times our static library and gimli's files on the same sections in turn, and prints how they compare with each other
-//! and with a bare pass over the bytes.
+//! Times our static library, gimli's files and a bare pass over the bytes, on the same sections in turn.
 
 mod sections;
 
@@ -26,7 +25,7 @@ struct Found {
 }
 
 #[repr(C)]
-#[derive(Default)]
+#[derive(Clone, Copy, Default)]
 struct Header {
     offset: u64,
     length: u64,
@@ -35,6 +34,13 @@ struct Header {
     version: u16,
     address_size: u8,
     word_size: u8,
+}
+
+#[repr(C)]
+#[derive(Default)]
+struct Headers {
+    count: u64,
+    next: u64,
 }
 
 #[repr(C)]
@@ -49,6 +55,8 @@ struct Range {
 struct Ranges {
     count: u64,
     passed: u64,
+    debug_info_offset: u64,
+    next: u64,
 }
 
 #[repr(C)]
@@ -60,7 +68,15 @@ struct Numbers {
 
 extern "C" {
     fn mallethill_lookup(section: *const u8, len: usize, big: bool, address: u64, answer: &mut Found) -> Fault;
-    fn mallethill_header(section: *const u8, len: usize, big: bool, offset: u64, answer: &mut Header) -> Fault;
+    fn mallethill_headers(
+        section: *const u8,
+        len: usize,
+        big: bool,
+        offset: u64,
+        headers: *mut Header,
+        headers_len: usize,
+        answer: &mut Headers,
+    ) -> Fault;
     fn mallethill_ranges(
         section: *const u8,
         len: usize,
@@ -83,6 +99,7 @@ extern "C" {
 struct Bench {
     bytes: Vec<u8>,
     big: bool,
+    headers: Vec<Header>,
     ranges: Vec<Range>,
     numbers: Vec<u64>,
 }
@@ -92,6 +109,7 @@ impl Bench {
         Bench {
             bytes: black_box(bytes),
             big: black_box(big),
+            headers: vec![Header::default(); 64],
             ranges: vec![Range::default(); 1024],
             numbers: vec![0; 1024],
         }
@@ -109,31 +127,51 @@ impl Bench {
         DebugAranges::from(EndianSlice::new(&self.bytes, self.endian()))
     }
 
-    /// The header at an offset.
-    fn header(&self, offset: u64) -> Header {
-        let mut header = Header::default();
-        let fault =
-            unsafe { mallethill_header(self.bytes.as_ptr(), self.bytes.len(), self.big, offset, &mut header) };
-        assert_eq!((fault.number, fault.payload), (0, 0));
-        header
+    /// The headers from an offset on, as many as there is room for; how many, and the offset behind them.
+    fn read_headers(&mut self, offset: u64) -> Headers {
+        let mut read = Headers::default();
+        let (headers, room) = (self.headers.as_mut_ptr(), self.headers.len());
+        let fault = unsafe {
+            mallethill_headers(self.bytes.as_ptr(), self.bytes.len(), self.big, offset, headers, room, &mut read)
+        };
+        assert_eq!(fault.number, 0);
+        read
     }
 
     fn headers_ours(&mut self) -> u64 {
         let (mut sum, mut offset) = (0u64, 0);
         while offset < self.bytes.len() as u64 {
-            let header = self.header(offset);
-            sum = sum.wrapping_add(header.offset ^ header.debug_info_offset);
-            offset = header.next;
+            let read = self.read_headers(offset);
+            sum = sum.wrapping_add(digest(&self.headers[..read.count as usize]));
+            offset = read.next;
         }
         sum
     }
 
     fn headers_gimli(&mut self) -> u64 {
         let mut sum = 0u64;
+        let mut room = std::mem::take(&mut self.headers);
         let mut headers = self.gimlis().headers();
+        let mut count = 0;
         while let Some(header) = headers.next().unwrap() {
-            sum = sum.wrapping_add(header.offset().0 as u64 ^ header.debug_info_offset().0 as u64);
+            let encoding = header.encoding();
+            room[count] = Header {
+                offset: header.offset().0 as u64,
+                length: header.length() as u64,
+                debug_info_offset: header.debug_info_offset().0 as u64,
+                next: 0,
+                version: encoding.version,
+                address_size: encoding.address_size,
+                word_size: encoding.format.word_size(),
+            };
+            count += 1;
+            if count == room.len() {
+                sum = sum.wrapping_add(digest(&room));
+                count = 0;
+            }
         }
+        sum = sum.wrapping_add(digest(&room[..count]));
+        self.headers = room;
         sum
     }
 
@@ -141,15 +179,14 @@ impl Bench {
     fn tuples_ours(&mut self) -> u64 {
         let (mut sum, mut offset) = (0u64, 0);
         while offset < self.bytes.len() as u64 {
-            let header = self.header(offset);
             let mut read = Ranges::default();
             let fault = unsafe {
                 let (ranges, room) = (self.ranges.as_mut_ptr(), self.ranges.len());
                 mallethill_ranges(self.bytes.as_ptr(), self.bytes.len(), self.big, offset, ranges, room, &mut read)
             };
-            assert_eq!(fault.number, 0);
-            sum = sum.wrapping_add(read.count ^ self.ranges[read.count as usize - 1].end);
-            offset = header.next;
+            assert_eq!((fault.number, read.passed), (0, 0));
+            sum = sum.wrapping_add(read.count ^ self.ranges[read.count as usize - 1].end ^ read.debug_info_offset);
+            offset = read.next;
         }
         sum
     }
@@ -175,7 +212,8 @@ impl Bench {
                 }
             }
             black_box(passed);
-            sum = sum.wrapping_add(count as u64 ^ room[count - 1].end);
+            let unit = header.debug_info_offset().0 as u64;
+            sum = sum.wrapping_add(count as u64 ^ room[count - 1].end ^ unit);
         }
         self.ranges = room;
         sum
@@ -251,6 +289,11 @@ impl Bench {
     }
 }
 
+/// Something of each header, so that both sides have to have read them.
+fn digest(headers: &[Header]) -> u64 {
+    headers.iter().fold(0, |sum, header| sum.wrapping_add(header.offset ^ header.debug_info_offset))
+}
+
 fn holds(entry: &ArangeEntry, address: u64) -> bool {
     let range = entry.range();
     range.begin <= address && address < range.end
@@ -280,7 +323,7 @@ fn race(
     least
 }
 
-/// Runs one race and prints its line; answers how many times as fast as gimli ours is.
+/// Runs one race and prints its line: the section's bytes, how many things were read, and the nanoseconds for each.
 fn line(
     name: &str,
     bench: &mut Bench,
@@ -288,19 +331,9 @@ fn line(
     patience: Duration,
     ours: impl Fn(&mut Bench) -> u64,
     gimlis: impl Fn(&mut Bench) -> u64,
-) -> f64 {
-    let [ours, gimlis, bare] = race(bench, patience, ours, gimlis).map(|time| time.as_secs_f64());
-    let each = |time: f64| time * 1e9 / count as f64;
-    let (size, per_second) = (bench.bytes.len(), count as f64 / ours / 1e6);
-    println!(
-        "{name:32} {size:>9} {count:>8} {:>8.2} {:>8.2} {:>8.2} {per_second:>8.1} {:>7.2} {:>7.1}",
-        each(ours),
-        each(gimlis),
-        each(bare),
-        gimlis / ours,
-        ours / bare
-    );
-    gimlis / ours
+) {
+    let [ours, gimlis, bare] = race(bench, patience, ours, gimlis).map(|time| time.as_secs_f64() * 1e9 / count as f64);
+    println!("{name}|{} {count} {ours} {gimlis} {bare}", bench.bytes.len());
 }
 
 const SHORT: usize = 2;
@@ -308,21 +341,15 @@ const LONG: usize = 1000;
 
 fn main() {
     let patience = Duration::from_millis(std::env::args().nth(1).map_or(400, |arg| arg.parse().unwrap()));
-    println!(
-        "{:32} {:>9} {:>8} {:>8} {:>8} {:>8} {:>8} {:>7} {:>7}",
-        "", "bytes", "items", "ns", "gimli ns", "bare ns", "M/s", "x gimli", "x bare"
-    );
-    let mut worst = f64::INFINITY;
-    let mut run = |kind: &str, len: usize, shape: &Sets| {
+    let run = |kind: &str, len: usize, shape: &Sets| {
         let (bytes, sets, tuples, last) = sets(len, shape);
         let mut bench = Bench::new(bytes, shape.big);
         let name = format!("{kind}, {shape}");
-        let ratio = match kind {
+        match kind {
             "headers" => line(&name, &mut bench, sets, patience, Bench::headers_ours, Bench::headers_gimli),
             "tuples" => line(&name, &mut bench, tuples, patience, Bench::tuples_ours, Bench::tuples_gimli),
             _ => line(&name, &mut bench, tuples, patience, |b| b.lookup_ours(last), |b| b.lookup_gimli(last)),
-        };
-        worst = worst.min(ratio);
+        }
     };
 
     println!("\nBy size of the section");
@@ -345,11 +372,11 @@ fn main() {
         }
     }
     println!("\nUnsigned LEB128 numbers, by size and by their bits");
-    let mut run = |len: usize, bits: std::ops::RangeInclusive<u32>| {
+    let run = |len: usize, bits: std::ops::RangeInclusive<u32>| {
         let name = format!("numbers of {} to {} bits", bits.start(), bits.end());
         let (bytes, count) = numbers(len, bits);
         let mut bench = Bench::new(bytes, false);
-        worst = worst.min(line(&name, &mut bench, count, patience, Bench::numbers_ours, Bench::numbers_gimli));
+        line(&name, &mut bench, count, patience, Bench::numbers_ours, Bench::numbers_gimli);
     };
     for len in lengths {
         run(len, 1..=7);
@@ -357,5 +384,4 @@ fn main() {
     for bits in [8..=14, 15..=21, 29..=35, 64..=64, 1..=16, 1..=32, 1..=64] {
         run(1 << 16, bits);
     }
-    println!("\nthe least of the ratios to gimli: {worst:.2}");
 }

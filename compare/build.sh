@@ -1,23 +1,26 @@
 #!/bin/bash
 # Builds the drivers around gimli's files: OUT/walks and OUT/reads.
 #
-#   build.sh [--checked] [--i686 ROOT] OUT
+#   build.sh [--checked | --fast] [--i686 ROOT] OUT
 #
 # GIMLI_SRC     the directory src of gimli 0.34.0, or one with the nine files named below
 # RUSTC         the compiler, if not rustc
 # --checked     with debug assertions and overflow checks on, not optimised
+# --fast        optimised as far as rustc goes, and for the processor that our library is built for; without the drivers
 # --i686 ROOT   as 32-bit programs, with the compiler that fetch-i686.sh left in ROOT
 #
 # The files are linked to where they lie, not copied; OUT/gimli.sha256 has their sums.
 set -euo pipefail
 here=$(cd "$(dirname "${BASH_SOURCE[0]}")" && pwd)
-usage() { sed -n '2,11s/^# \{0,1\}//p' "$0" >&2; exit 2; }
+usage() { sed -n '2,12s/^# \{0,1\}//p' "$0" >&2; exit 2; }
 
 flags="-C opt-level=2"
+drivers="walks reads"
 root=
 while [ $# -gt 1 ]; do
     case $1 in
     --checked) flags="-C opt-level=0 -C debug-assertions=on -C overflow-checks=on" ;;
+    --fast) flags="-C opt-level=3 -C codegen-units=1 -C target-cpu=x86-64-v2" drivers= ;;
     --i686) root=$(cd "$2" && pwd); shift ;;
     *) usage ;;
     esac
@@ -58,7 +61,7 @@ compile --edition 2018 --crate-type rlib --crate-name stable_deref_trait --out-d
 compile --edition 2018 --crate-type rlib --crate-name gimli --cap-lints allow --out-dir "$made" \
     --cfg 'feature="read"' --cfg 'feature="read-core"' --cfg 'feature="std"' \
     --extern stable_deref_trait="$made/libstable_deref_trait.rlib" "$made/src/lib.rs"
-for driver in walks reads; do
+for driver in $drivers; do
     compile --edition 2021 -L "$made" --extern gimli="$made/libgimli.rlib" \
         -o "$out/$driver" "$here/drivers/$driver.rs"
 done

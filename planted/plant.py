@@ -31,21 +31,23 @@ def bugs(path):
             crate, file = line.split(" ")
             bug = (crate, file, [], [])
         elif not line and bug:
-            yield bug[0], bug[1], "\n".join(bug[2]), "\n".join(bug[3])
+            yield bug[0], bug[1], [("\n".join(bug[2]), "\n".join(bug[3]))]
             bug = None
 
 
 def edits(root):
     for path in sorted(glob.glob(root + "/crates/*/must-fail/*.edit")):
-        lines = dict(line.split(": ", 1) for line in open(path).read().split("\n") if line)
-        yield path.split("/")[-3], lines["file"], lines["old"], lines["new"]
+        lines = [line.split(": ", 1) for line in open(path).read().split("\n") if line]
+        file, olds, news = ([text for key, text in lines if key == wanted] for wanted in ("file", "old", "new"))
+        yield path.split("/")[-3], file[0], list(zip(olds, news))
 
 
 def verdict(status, output):
     # not by a line `logic=proved`: the crates below come first, and each has one
     if status == 0:
         return "PROVED", ""
-    facts = re.findall(r"(?:^|\s)(?:\./)?(src/\S+): (?:note: )?it is not proved that (.*)", output, re.M)
+    unproved = r"(?:^|\s)(?:\./)?(src/\S+): (?:note: )?(?:it is not proved that|`search` found no proof) (.*)"
+    facts = re.findall(unproved, output, re.M)
     if re.search(r"error\[", output) and not facts:
         return "unfit", re.search(r"error\[.*", output).group(0)[:150]
     if facts:
@@ -66,21 +68,25 @@ def main(arguments):
     chosen = [a for a in arguments if not a.startswith("--")]
     source = edits(root) if "--edits" in arguments else bugs(root + "/planted/bugs.txt")
     counts = {}
-    for crate, file, old, new in source:
+    for crate, file, changes in source:
         if chosen and crate not in chosen:
             continue
         path = os.path.join(scratch, "crates", crate, file)
         text = open(path).read()
-        if text.count(old) != 1:
-            result, note = "unfit", "stands %d times" % text.count(old)
+        changed, counts_of_old = text, []
+        for old, new in changes:
+            counts_of_old.append(changed.count(old))
+            changed = changed.replace(old, new)
+        if any(count != 1 for count in counts_of_old):
+            result, note = "unfit", "stands %s times" % counts_of_old
         else:
-            open(path, "w").write(text.replace(old, new))
+            open(path, "w").write(changed)
             folder = os.path.join(scratch, "crates", crate)
             run = subprocess.run(["rt", "check", "--jobs", "1"], cwd=folder, capture_output=True, text=True)
             result, note = verdict(run.returncode, run.stdout + run.stderr)
             open(path, "w").write(text)
         counts[result] = counts.get(result, 0) + 1
-        shown = [" / ".join(part.strip() for part in text.split("\n"))[:90] for text in (old, new)]
+        shown = [" / ".join(part.strip() for part in text.split("\n"))[:90] for text in changes[0]]
         print("%-8s %s/%s: %s -> %s | %s" % (result, crate, file, *shown, note), flush=True)
     print(", ".join("%d %s" % (n, r) for r, n in sorted(counts.items())))
     shutil.rmtree(scratch)

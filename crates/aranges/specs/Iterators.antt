@@ -18,11 +18,11 @@ tuples_of s h = record { size = s; tuples = h.tuples }
 abbrev pub entries_of : Header → Left
 entries_of h = tuples_of h.size h
 
--- how many tuples are left; a shorter end is none
+-- how many tuples are left; a shorter end is none, and of size 0 there is none, since division by 0 gives 0
 abbrev pub count : ℕ → Meaning → ℕ
 count s m = length m.rest / (2 * s)
 
--- the first answer of a kind among n tuples, and the reader after it: past its tuple, or emptied by relocation's fault
+-- the first answer of a kind among n tuples, and the reader after it: past its tuple, or emptied by the fault of a read
 -- or where there is no answer
 abbrev pub first : Kind → ℕ → ℕ → Meaning → Told × Meaning
 first k s zero m = (over, emptied m)

@@ -11,6 +11,7 @@ use Rattle.aranges.specs.Sets.{Header}
 use Rattle.aranges.specs.Tuples.{Entry, Says, nothing, entry, overflow, refused, Told, found, failed, over}
 use Rattle.aranges.specs.Iterators.{Left}
 
+-- the fields of a header
 abbrev pub header_is : {R O : Type 0} → (R → Meaning) → (O → ℕ) → ArangeHeader R O → Header
 header_is means number h =
     record {
@@ -23,6 +24,7 @@ header_is means number h =
       tuples = means h.entries;
     }
 
+-- the fields of an entry
 abbrev pub entry_is : ArangeEntry → Entry
 entry_is e = record { begin = e.range.begin; end = e.range.end; length = e.length }
 
@@ -33,14 +35,17 @@ said (entry e) = answer (Some e)
 said overflow = fault_of 10 0
 said (refused f) = fault f
 
+-- what an outcome tells
 abbrev pub told_of : Outcome (Option Entry) → Told
 told_of (answer (Some e)) = found e
 told_of (answer None) = over
 told_of (fault f) = failed f
 
+-- what the answer of next or next raw tells
 abbrev pub told_is : Result (Option ArangeEntry) Error → Told
 told_is r = told_of (outcome_is (option_map entry_is) r)
 
+-- the tuples that an iterator has left
 abbrev pub entries_is : {R O : Type 0} → (R → Meaning) → ArangeEntryIter R O → Left
 entries_is means i = record { size = i.encoding.address_size; tuples = means i.input }
 

@@ -42,10 +42,12 @@ no_segment s g m = cond (g == 0) (gives s m) (refuses 5 g m)
 abbrev pub from_segment : ℕ → Meaning → Step ℕ
 from_segment s m = then (fixed 1 m) (no_segment s)
 
+-- the size of an address, behind which stands a segment size of 0
 abbrev pub sizes : Meaning → Step ℕ
 sizes m = then (size_of_addresses m) from_segment
 
--- the fields behind the initial length: version, info offset, the two sizes, padding; here from the last to the first
+-- the fields behind the initial length: version, info offset, the two sizes, padding; here from the last to the first;
+-- p is the place, l the length, w the bytes of a word, v the version, s the size of an address, o the info offset
 abbrev pub whole : ℕ → ℕ → ℕ → ℕ → ℕ → ℕ → Unit {0} → Meaning → Step Header
 whole p l w v o s _ m = gives (record { place = p; length = l; word = w; version = v; size = s; info = o; tuples = m }) m
 
@@ -72,6 +74,7 @@ from_length limit p i m = then (split_off i.length m) (apart limit p i)
 abbrev pub set_step : ℕ → ℕ → Meaning → Step Header
 set_step limit p m = then (initial limit m) (from_length limit p)
 
+-- the same without the reader
 abbrev pub header : ℕ → ℕ → Meaning → Outcome Header
 header limit p m = (set_step limit p m).outcome
 

@@ -14,8 +14,8 @@ pub data Kind : Type 0 where
   converted : Kind
   raw : Kind
 
--- what one tuple answers: nothing, an entry, that its end passes the largest address, or what relocation refused;
--- the last two are told apart whatever fault relocation gives
+-- what one tuple answers: nothing, an entry, that its end passes the largest address, or what its read refused, which is
+-- relocation's fault, or 4 for a size that is none; the last two are told apart whatever fault relocation gives
 pub data Says : Type 0 where
   nothing : Says
   entry : Entry → Says
@@ -28,6 +28,7 @@ convert s b l =
     cond (nat_le (2 ^ (8 * s) - 2) b) nothing
     (cond (nat_lt (b + l) (2 ^ (8 * s))) (entry (record { begin = b; end = b + l; length = l })) overflow)
 
+-- a null pair
 abbrev pub is_null : ℕ → ℕ → Bool
 is_null b l = b == 0 && l == 0
 

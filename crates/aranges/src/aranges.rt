@@ -49,6 +49,7 @@ impl<R: AddressReader> DebugAranges<R> {
     }
 
     /// The header at an offset of the section.
+    #[inline(always)]
     pub fn header(&self, offset: DebugArangesOffset<R::Offset>) -> Result<ArangeHeader<R>, Error>
         ensures { outcome_is (header_is R.Reader.means R.Offset.ReaderOffset.number) result ≡ header_past R.Offset.ReaderOffset.limit (R.Offset.ReaderOffset.number offset.0) (R.Reader.means self.now.section) }
     {
@@ -214,6 +215,7 @@ impl<R: AddressReader> ArangeHeader<R> {
 }
 
 // The version of a set, 2 or 3.
+#[inline(always)]
 fn read_version<R: Reader>(reader: &mut R) -> Result<u16, Error>
     ensures { Did (λ x. x) result (R.Reader.means reader.new) (versioned (R.Reader.means reader.old)) }
 {
@@ -225,6 +227,7 @@ fn read_version<R: Reader>(reader: &mut R) -> Result<u16, Error>
 }
 
 // The size of an address, behind which stands a segment size of 0.
+#[inline(always)]
 fn read_sizes<R: Reader>(reader: &mut R) -> Result<u8, Error>
     ensures { Did (λ x. x) result (R.Reader.means reader.new) (sizes (R.Reader.means reader.old)) }
 {
@@ -238,6 +241,7 @@ fn read_sizes<R: Reader>(reader: &mut R) -> Result<u8, Error>
 
 // Format and size apart, here and below: the encoding is made once all fields are read.
 // Moves to the first tuple, which stands at a multiple of a tuple's size from the set's start.
+#[inline(always)]
 fn skip_padding<R: Reader>(reader: &mut R, format: Format, address_size: u8) -> Result<(), Error>
     ensures { Did (λ x. x) result (R.Reader.means reader.new) (skipped (padded (word_of format) address_size) (R.Reader.means reader.old)) }
 {
@@ -245,6 +249,7 @@ fn skip_padding<R: Reader>(reader: &mut R, format: Format, address_size: u8) -> 
 }
 
 // How many bytes the fields of a header take, from the set's start.
+#[inline(always)]
 fn header_length(format: Format) -> u32
     ensures { result ≡ header_size (word_of format) }
 {
@@ -253,6 +258,7 @@ fn header_length(format: Format) -> u32
 }
 
 // How many bytes fill those fields to a multiple of a tuple's size.
+#[inline(always)]
 fn padding(format: Format, address_size: u8) -> u32
     ensures { result ≡ padded (word_of format) address_size }
 {
@@ -269,6 +275,7 @@ fn padding(format: Format, address_size: u8) -> u32
 
 // How many bytes there are from a place to the next that is a multiple of a size. It is the rule's
 // own term: `next_multiple_of` would ask for a bound on the sum, and test the rest.
+#[inline(always)]
 fn to_multiple(place: u32, size: u32) -> u32
     requires { 0 < size }
     ensures { result ≡ (size - place % size) % size }

@@ -13,6 +13,7 @@ use Rattle.calls.specs.declared.calls.Call.TheVariants.{NextHeader, Entries as A
 use Rattle.calls.specs.Law.{next_header, entries_call, next_call, lookup_call}
 use Rattle.calls.specs.Law as Law
 
+-- a call that is asked
 abbrev pub call_is : Call → Law.Call
 call_is NextHeader = next_header
 call_is AskEntries = entries_call

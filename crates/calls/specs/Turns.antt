@@ -5,6 +5,7 @@ use Rattle.walk.specs.Lookups.{look_in}
 use Rattle.walk.specs.State.{Walk, Turn, turn_header, turn_entries, turn_next}
 use Rattle.calls.specs.Law.{Call, next_header, entries_call, next_call, lookup_call}
 
+-- the turn of one call
 abbrev pub step : ℕ → Call → Walk → Turn
 step limit next_header w = turn_header limit w
 step limit entries_call w = turn_entries w

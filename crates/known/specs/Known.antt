@@ -19,6 +19,7 @@ ten b c = replicate 9 b ++ c ∷ []
 abbrev high : ℕ → ℕ → List ℕ
 high b l = b ∷ 0xff ∷ 0xff ∷ 0xff ∷ l ∷ 0 ∷ 0 ∷ 0 ∷ []
 
+-- the thirteen values
 pub record Known : Type 0 where
   -- unsigned LEB128 numbers
   pub A : (unsigned (of (0xb9 ∷ 0x64 ∷ []))).outcome ≡ answer 12857

@@ -1,11 +1,11 @@
 // Reads of LEB128 numbers, written once for every reader.
-ghost use Rattle.std.specs.Prelude.{◌≡◌, ◌+◌, ◌*◌, ◌%◌, ◌^◌, ◌<◌, ◌≤◌, pos, ◌-ℤ◌};
-ghost use Rattle.readers.specs.Reading.{Meaning};
+ghost use Rattle.std.specs.Prelude.{◌≡◌, ◌+◌, ◌*◌, ◌%◌, ◌^◌, ◌<◌, ◌≤◌, pos, ◌-ℤ◌, length};
+ghost use Rattle.readers.specs.Reading.{Meaning, past};
 ghost use Rattle.readers.specs.Links.{Did};
 ghost use Rattle.leb128.specs.Leb128.{unsigned, unsigned_32, unsigned_16, signed, passed};
 
 use numbers::read_u8;
-use readers::{Error, Reader};
+use readers::{Error, Reader, ReaderOffset};
 
 /// Moves past a number, whatever its length.
 pub fn skip_leb128<R: Reader>(reader: &mut R) -> Result<(), Error>
@@ -34,10 +34,54 @@ fn with_group(bits: u64, byte: u8, i: u32) -> u64
 pub fn read_uleb128<R: Reader>(reader: &mut R) -> Result<u64, Error>
     ensures { Did (λ x. x) result (R.Reader.means reader.new) (unsigned (R.Reader.means reader.old)) }
 {
+    let Some(bytes) = reader.next_ten() else {
+        return read_by_bytes(reader);
+    };
+    let first = bytes[0];
+    // one `Ok` for all lengths: where each has its own, a caller's compiled code may join the number byte by byte
+    let value = if first < 0x80 {
+        // by itself, since most numbers have one byte
+        pass(reader, 1);
+        first as u64
+    } else {
+        let mut result = with_group(0, first, 0);
+        let (value, len) = 'value: {
+            for i in 1..9u32 {
+                let byte = bytes[i as usize];
+                result = with_group(result, byte, i);
+                if byte < 0x80 {
+                    break 'value (result, i + 1);
+                }
+            }
+            let tenth = bytes[9];
+            if tenth > 0x01 {
+                pass(reader, 10);
+                return Err(Error::BadUnsignedLeb128);
+            }
+            (result | (tenth as u64) << 63, 10)
+        };
+        pass(reader, len);
+        value
+    };
+    Ok(value)
+}
+
+// Moves past some of the bytes that are left.
+fn pass<R: Reader>(reader: &mut R, len: u32)
+    requires { len ≤ length (R.Reader.means reader.old).rest }
+    ensures { R.Reader.means reader.new ≡ past len (R.Reader.means reader.old) }
+{
+    reader.skip(R::Offset::from_u32(len)).unwrap();
+}
+
+// An unsigned number where fewer than ten bytes may be left: each byte is asked for.
+fn read_by_bytes<R: Reader>(reader: &mut R) -> Result<u64, Error>
+    ensures { Did (λ x. x) result (R.Reader.means reader.new) (unsigned (R.Reader.means reader.old)) }
+{
     // Its own loop, and read_sleb128's: one function for both, which answers the bits and the last byte, was tried, and
     // numbers of one byte took four times as long.
     let mut result = 0u64;
-    // one `Ok` for all lengths: where each has its own, a caller's compiled code may join the number byte by byte
+    // one `Ok`, as above
     let value = 'value: {
         for i in 0..9u32 {
             let byte = read_u8(reader)?;

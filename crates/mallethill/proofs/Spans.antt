@@ -9,6 +9,7 @@ use Rattle.numbers.specs.Numbers.{Initial, initial}
 use Rattle.aranges.specs.Sets.{Header, version, sizes, padding, whole, from_padding, from_sizes, from_info, fields, apart, from_length, set_step, header_past, span}
 use Rattle.aranges.proofs.Draws.{then_answered, then_at, same_answer}
 use Rattle.aranges.proofs.Shorter.{set_shorter}
+use Rattle.mallethill.specs.Headers.{Within}
 
 -- the fields keep what the initial length told, and the place
 fields_keep : (limit p l w : ℕ) (m : Meaning) (h : Header) → (fields limit p l w m).outcome ≡ answer h → (p ≡ h.place) × (l ≡ h.length) × (w ≡ h.word)
@@ -90,6 +91,6 @@ set_inside limit p m h e =
     (omega (arith, u, s.0, s.1), omega (arith, u, t))
 
 pub inside : {A : Type 0} (f : A → Header) (limit p n : ℕ) (m : Meaning) (r : Result A Error) → length m.rest ≡ n → outcome_is f r ≡ header_past limit p m
-    → IfOk r (λ h. ((f h).place + span (f h) ≤ n) × (length (f h).tuples.rest ≤ n))
+    → IfOk r (λ h. Within n (f h))
 inside f limit p n m (Ok h) q e = let s = set_inside limit p m (f h) (sym e) in (omega (arith, s.0, q), omega (arith, s.1, q))
 inside f limit p n m (Err x) q e = tt

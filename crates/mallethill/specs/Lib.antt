@@ -3,3 +3,4 @@ pub mod Lookups
 pub mod Headers
 pub mod Ranges
 pub mod Numbers
+pub mod Rows

@@ -10,6 +10,7 @@ use Rattle.mallethill.specs.declared.lookup.FoundRange.{FoundRange}
 abbrev pub nothing_found : ℕ → FoundRange
 nothing_found p = record { debug_info_offset = 0; set = 0; begin = 0; end = 0; passed = p; found = false }
 
+-- the fields of an answer
 abbrev pub found_of : Looked → Outcome FoundRange
 found_of (range e info place p) = answer (record { debug_info_offset = info; set = place; begin = e.begin; end = e.end; passed = p; found = true })
 found_of (missing p) = answer (nothing_found p)

@@ -9,7 +9,7 @@ mod section;
 mod uleb128;
 
 pub use fault::Fault;
-pub use header::SetHeader;
+pub use header::{HeadersRead, SetHeader};
 pub use lookup::FoundRange;
 pub use ranges::{AddressRange, RangesRead};
 pub use uleb128::NumbersRead;

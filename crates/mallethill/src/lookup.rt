@@ -39,6 +39,7 @@ pub extern "C" fn mallethill_lookup(
     settle(look_up(section, big_endian, address), answer)
 }
 
+// The same as a result.
 fn look_up(section: &[u8], big_endian: bool, address: u64) -> Result<FoundRange, Error>
     ensures { outcome_is (λ x. x) result ≡ looked_up section.now big_endian address }
 {

@@ -27,27 +27,35 @@ pub extern "C" fn mallethill_uleb128(
 ) -> Fault
     ensures fault { result ≡ (row_of bytes.now (length numbers.old)).ended }
     ensures answer { answer.new ≡ counted (row_of bytes.now (length numbers.old)) }
-    ensures numbers { numbers.new ≡ filled numbers.old (row_of bytes.now (length numbers.old)).numbers }
+    ensures numbers { numbers.new ≡ filled numbers.old (row_of bytes.now (length numbers.old)).items }
 {
-    // of one byte each, so either order will do
+    // LEB128 is read byte by byte, so that either order will do
     let (read, fault) = read_row(open(bytes, false), numbers);
     *answer = read;
     fault
 }
 
+// The same from any reader, whose ids count the bytes.
 fn read_row<R: Reader>(mut reader: R, numbers: &mut [u64]) -> (NumbersRead, Fault)
     ensures fault { result.1 ≡ (row (length numbers.old) (R.Reader.means reader)).ended }
     ensures answer { result.0 ≡ counted (row (length numbers.old) (R.Reader.means reader)) }
-    ensures numbers { numbers.new ≡ filled numbers.old (row (length numbers.old) (R.Reader.means reader)).numbers }
+    ensures numbers { numbers.new ≡ filled numbers.old (row (length numbers.old) (R.Reader.means reader)).items }
 {
     let mut count = 0usize;
-    while count < numbers.len() && !is_empty(&reader) {
+    while count < numbers.len() {
         let taken = reader.offset_id().0;
+        // asked before the read, used only where it is refused: a test in each turn costs time
+        let ends = is_empty(&reader);
         match read_uleb128(&mut reader) {
             Ok(number) => numbers[count] = number,
             Err(error) => {
                 let count = count as u64;
-                return (NumbersRead { count, taken }, Fault::from(error));
+                let fault = if ends {
+                    Fault::NONE
+                } else {
+                    Fault::from(error)
+                };
+                return (NumbersRead { count, taken }, fault);
             }
         }
         count += 1;

@@ -113,6 +113,7 @@ pub fn read_uint<R: Reader>(reader: &mut R, n: usize) -> Result<u64, Error>
 }
 
 /// A word of the format's width: an offset or a length.
+#[inline(always)]
 pub fn read_word<R: Reader>(reader: &mut R, format: Format) -> Result<R::Offset, Error>
     ensures { Did R.Offset.ReaderOffset.number result (R.Reader.means reader.new) (word R.Offset.ReaderOffset.limit (word_of format) (R.Reader.means reader.old)) }
 {

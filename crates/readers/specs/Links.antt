@@ -31,6 +31,7 @@ abbrev pub outcome_is : {A B : Type 0} → (A → B) → Result A Error → Outc
 outcome_is f (Ok x) = answer (f x)
 outcome_is f (Err e) = fault (fault_is e)
 
+-- whether the highest byte of a number comes first
 abbrev pub is_big : RunTimeEndian → Bool
 is_big Little = false
 is_big Big = true

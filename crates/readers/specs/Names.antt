@@ -10,7 +10,7 @@ fault_names =
     ∷ codes "BadSignedLeb128" ∷ codes "AddressOverflow" ∷ codes "SectionTooLong" ∷ codes "NothingOpen"
     ∷ codes "RelocationRefused" ∷ codes "BadLength" ∷ []
 
--- the name of the fault with a number
+-- the name of the fault with a number, 1 to 14
 abbrev pub name_of : ℕ → List ℕ
 name_of n = slice_index_or fault_names (n - 1) []
 

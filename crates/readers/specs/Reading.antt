@@ -41,9 +41,11 @@ pub record Step (A : Type 0) : Type 0 where
   pub outcome : Outcome A
   pub after : Meaning
 
+-- an answer, and the reader after it
 abbrev pub gives : {A : Type 0} → A → Meaning → Step A
 gives x m = record { outcome = answer x; after = m }
 
+-- a fault by its number and payload, and the reader after it
 abbrev pub refuses : {A : Type 0} → ℕ → ℕ → Meaning → Step A
 refuses n p m = record { outcome = fault_of n p; after = m }
 
@@ -51,19 +53,23 @@ refuses n p m = record { outcome = fault_of n p; after = m }
 abbrev pub then : {A B : Type 0} → Step A → (A → Meaning → Step B) → Step B
 then s f = elim s.outcome [ answer x ↦ f x s.after | fault e ↦ record { outcome = fault e; after = s.after } ]
 
--- a step that takes the next n bytes, and nothing where fewer are left
+-- the step s, which takes n bytes; where fewer are left, fault 1 with the reader's id, and nothing is taken
 abbrev pub taking : {A : Type 0} → ℕ → Meaning → Step A → Step A
 taking n m s = cond (nat_le n (length m.rest)) s (refuses 1 m.id m)
 
+-- past n bytes
 abbrev pub skipped : ℕ → Meaning → Step (Unit {0})
 skipped n m = taking n m (gives tt (past n m))
 
+-- n bytes and no more are left
 abbrev pub truncated : ℕ → Meaning → Step (Unit {0})
 truncated n m = taking n m (gives tt (front n m))
 
+-- n bytes as a reader of their own, and past them
 abbrev pub split_off : ℕ → Meaning → Step Meaning
 split_off n m = taking n m (gives (front n m) (past n m))
 
+-- n bytes as a list, and past them
 abbrev pub copied : ℕ → Meaning → Step (List ℕ)
 copied n m = taking n m (gives (take n m.rest) (past n m))
 
@@ -105,10 +111,11 @@ sized_or f s m = cond (is_size s) (fixed s m) (record { outcome = fault f; after
 abbrev pub sized : ℕ → ℕ → Meaning → Step ℕ
 sized f s m = sized_or (numbered f s) s m
 
--- a number that an offset below the limit can hold
+-- a number that an offset can hold; limit, here and in all files, is the first number that no offset stands for
 abbrev pub fitting : ℕ → ℕ → Outcome ℕ
 fitting limit n = cond (nat_lt n limit) (answer n) (fault_of 6 0)
 
+-- the same, once the number is read
 abbrev pub fitted : ℕ → ℕ → Meaning → Step ℕ
 fitted limit n m = record { outcome = fitting limit n; after = m }
 
@@ -132,6 +139,7 @@ offset limit w m = then (word limit w m) (relocated m.offset m)
 abbrev pub sized_word : ℕ → ℕ → Meaning → Step ℕ
 sized_word limit s m = then (sized 7 s m) (fitted limit)
 
+-- an offset of s bytes
 abbrev pub sized_offset : ℕ → ℕ → Meaning → Step ℕ
 sized_offset limit s m = then (sized_word limit s m) (relocated m.offset m)
 

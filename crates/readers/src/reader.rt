@@ -1,5 +1,5 @@
 // What a reader is: its offsets, its meaning, and what each call answers and leaves.
-ghost use Rattle.std.specs.Prelude.{◌≡◌, ℕ, ◌^◌, length, option_map};
+ghost use Rattle.std.specs.Prelude.{◌≡◌, ℕ, ◌^◌, ◌≤◌, length, take, option_map, IfSome};
 ghost use Rattle.readers.specs.Outcome.{Outcome};
 ghost use Rattle.readers.specs.Reading.{Meaning, emptied, skipped, truncated, split_off, copied, position, distance, distance_within, fitting, address, offset, sized_offset};
 ghost use Rattle.readers.specs.Links.{Did, Filled, is_big, outcome_is, word_of};
@@ -135,6 +135,14 @@ pub trait Reader: Sized + Drop {
     /// Moves past as many bytes as `buf` has, and copies them there.
     fn read_slice(&mut self, buf: &mut [u8]) -> Result<(), Error>
         ensures { Filled result buf.old buf.new (means self.new) (copied (length buf.old) (means self.old)) };
+
+    // A reference and a fixed number, so that a read tests once that the bytes are there, and then none of them.
+    /// The next ten bytes, where the reader has them side by side in memory. It may answer None however many are left.
+    fn next_ten(&self) -> Option<&[u8; 10]>
+        ensures { IfSome result (λ bytes. (10 ≤ length (means self.now).rest) × (bytes.now ≡ take 10 (means self.now).rest)) }
+    {
+        None
+    }
 
     /// The number of bytes in front of the first `byte`.
     fn find(&self, byte: u8) -> Result<Self::Offset, Error>

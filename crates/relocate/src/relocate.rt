@@ -120,6 +120,10 @@ impl<R: Reader, T: Relocate> Reader for RelocateReader<R, T> {
         self.reader.read_slice(buf)
     }
 
+    fn next_ten(&self) -> Option<&[u8; 10]> {
+        self.reader.next_ten()
+    }
+
     fn find(&self, byte: u8) -> Result<R::Offset, Error> {
         self.reader.find(byte)
     }

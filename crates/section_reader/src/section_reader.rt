@@ -166,6 +166,10 @@ impl<O: ReaderOffset> Reader for SectionReader<'_, O> {
         Ok(())
     }
 
+    fn next_ten(&self) -> Option<&[u8; 10]> {
+        self.slice().first_chunk()
+    }
+
     fn find(&self, byte: u8) -> Result<O, Error> {
         // a match: `ok_or` would ask for the fault's id before it is known that there is a fault
         match self.slice().iter().position(|other| *other == byte) {
@@ -194,10 +198,12 @@ impl<O: ReaderOffset> Reader for SectionReader<'_, O> {
 }
 
 impl<O: ReaderOffset> AddressReader for SectionReader<'_, O> {
+    #[inline(always)]
     fn read_address(&mut self, address_size: u8) -> Result<u64, Error> {
         read_plain_address(self, address_size)
     }
 
+    #[inline(always)]
     fn read_offset(&mut self, format: Format) -> Result<O, Error> {
         read_word(self, format)
     }

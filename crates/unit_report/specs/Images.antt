@@ -1,11 +1,12 @@
 -- The section .debug_aranges of a file.
-use Rattle.std.specs.Prelude.{ℕ, ◌^◌, List, map, cond, Option, Some, None, Ok, Err, Result, codes, ◌==◌, bit_and}
+use Rattle.std.specs.Prelude.{ℕ, ◌^◌, List, map, cond, Option, Some, None, Ok, Err, Result, codes}
 use Rattle.readers.specs.Reading.{Meaning, plain}
 use Rattle.relocate.specs.Relocating.{by_table, layered}
 use Rattle.elf.specs.declared.error.ElfError.{ElfError}
 use Rattle.elf.specs.declared.section.Section.{Section}
 use Rattle.elf.specs.Files.{File, parsed, data_of}
 use Rattle.elf.specs.Names.{named}
+use Rattle.elf.specs.Sections.{is_compressed}
 use Rattle.elf_relocations.specs.declared.error.RelocationError.{RelocationError}
 use Rattle.elf_relocations.specs.declared.record.Applied.{Applied}
 use Rattle.elf_relocations.specs.Tables.{table_of}
@@ -38,9 +39,9 @@ abbrev pub from_relocation : {A B : Type 0} → Result A RelocationError → (A 
 from_relocation (Ok x) f = f x
 from_relocation (Err e) f = Err (Relocation e)
 
--- a section that was found, which may not have the flag 0x800 of compression
+-- a section that was found, which may not be compressed
 abbrev pub plain_section : Option Section → Result Section Refusal → Result Section Refusal
-plain_section (Some s) r = cond (bit_and s.flags 2048 == 0) (Ok s) (Err Compressed)
+plain_section (Some s) r = cond (is_compressed s) (Err Compressed) (Ok s)
 plain_section None r = r
 
 -- where the name is missing, another one says that the section is compressed

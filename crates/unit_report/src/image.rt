@@ -18,9 +18,6 @@ const NAME: &[u8] = b".debug_aranges";
 // the name under which older compilers wrote it compressed
 const COMPRESSED_NAME: &[u8] = b".zdebug_aranges";
 
-// the flag of a section whose bytes are compressed
-const COMPRESSED: u64 = 0x800;
-
 /// A reader of the section that applies the records of a table.
 pub type Relocated<'a> = RelocateReader<EndianSlice<'a>, RelocationTable<'a>>;
 
@@ -71,7 +68,7 @@ fn find_section(file: &ElfFile) -> Result<Section, Refusal>
     ensures { result ≡ aranges_section (file_is file.now) }
 {
     match file.section_named(NAME)? {
-        Some(section) if section.flags & COMPRESSED == 0 => Ok(section),
+        Some(section) if !section.is_compressed() => Ok(section),
         Some(_) => Err(Refusal::Compressed),
         None => match file.section_named(COMPRESSED_NAME)? {
             Some(_) => Err(Refusal::Compressed),

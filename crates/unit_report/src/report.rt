@@ -22,7 +22,7 @@ use walk::{Lookup, lookup_address};
 pub enum Status {
     /// The report is complete.
     Complete,
-    /// It halted at an oddity, or there is none.
+    /// The report halted at an oddity, or there is no report.
     Failed,
     /// The command line, or an address, can't be read.
     Misused,

@@ -13,6 +13,7 @@ use Rattle.walk.specs.Lookups as Lookups
 use Rattle.walk.specs.State as State
 use Rattle.walk.specs.State.{Turn}
 
+-- the fields of a walk
 abbrev pub walk_is : {R O : Type 0} → (R → Meaning) → (O → ℕ) → Walk R O → State.Walk
 walk_is means number w =
     record {
@@ -38,6 +39,7 @@ abbrev pub found_by : {O : Type 0} → (O → ℕ) → Option (Found O) → ℕ 
 found_by number (Some f) p = range (entry_is f.entry) (number f.debug_info_offset.0) f.set.0 p
 found_by number None p = missing p
 
+-- the answer of a lookup
 abbrev pub looked_is : {O : Type 0} → (O → ℕ) → Result (Lookup O) Error → Looked
 looked_is number (Ok l) = found_by number l.found l.passed
 looked_is number (Err e) = spoilt (fault_is e)

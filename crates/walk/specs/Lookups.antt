@@ -12,6 +12,7 @@ pub data Sought : Type 0 where
   ended : Entry → ℕ → Sought
   going : ℕ → Sought
 
+-- whether a range holds an address
 abbrev pub holds : ℕ → Entry → Bool
 holds a e = nat_le e.begin a && nat_lt a e.end
 
@@ -26,6 +27,7 @@ seek a c s (suc n) m =
       | refused f ↦ going (c + 1)
     ]
 
+-- over all tuples that are left of a set
 abbrev pub seek_on : ℕ → ℕ → Left → Sought
 seek_on a c l = seek a c l.size (count l.size l.tuples) l.tuples
 

@@ -15,6 +15,7 @@ pub record Walk : Type 0 where
   pub newest : Option Header
   pub left : Option Left
 
+-- at the first set of a section, with no header and no tuples
 abbrev pub open_walk : Meaning → Walk
 open_walk m = record { whole = m; start = m.id; ahead = m; newest = None; left = None }
 
@@ -29,11 +30,13 @@ newer_of (answer (Some h)) o = Some h
 newer_of (answer None) o = o
 newer_of (fault _) o = o
 
+-- the next header
 abbrev pub turn_header : ℕ → Walk → Turn
 turn_header limit w =
     let s : Step (Option Header) = next_set limit w.start w.ahead in
     record { event = header s.outcome; walk = record { whole = w.whole; start = w.start; ahead = s.after; newest = newer_of s.outcome w.newest; left = w.left } }
 
+-- to the first tuple of the latest header's set
 abbrev pub turn_entries : Walk → Turn
 turn_entries w =
     elim w.newest [
@@ -41,6 +44,7 @@ turn_entries w =
       | None ↦ record { event = entries (fault_of 12 0); walk = w }
     ]
 
+-- the next tuple of a kind
 abbrev pub turn_next : Kind → Walk → Turn
 turn_next k w =
     elim w.left [

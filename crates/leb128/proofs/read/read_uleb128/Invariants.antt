@@ -1,10 +1,8 @@
-use Rattle.std.proofs.Common.{◌≡◌, ◌*◌, ◌^◌, ◌<◌, []}
-use Rattle.leb128.specs.Leb128.{more, unsigned}
-use Rattle.leb128.proofs.Spelling.{left}
-use Rattle.leb128.proofs.Unsigned.{ends}
+use Rattle.std.proofs.Common.{◌≡◌, ◌*◌, ◌^◌, ◌<◌}
+use Rattle.leb128.specs.Leb128.{unsigned}
+use Rattle.leb128.proofs.Ahead.{left_past}
 use Rattle.leb128.proofs.read.read_uleb128.Given as goal
 
 abbrev pub invariant-loop-i : goal.invariant-loop-i
 invariant-loop-i g l =
-    (left more [] ends l.i l.result (g.R.Reader.means l.reader) ≡ unsigned (g.R.Reader.means l.initial.reader))
-    × (l.result < 2 ^ (7 * l.i))
+    (left_past l.i l.result (g.R.Reader.means l.fn.reader) ≡ unsigned (g.R.Reader.means l.fn.reader)) × (l.result < 2 ^ (7 * l.i))
