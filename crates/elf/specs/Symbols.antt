@@ -39,6 +39,10 @@ symbols_of f s =
     and_then (sections_of_symbols f s) (λ sections.
     Ok (record { entries = words_in f entries; sections = words_in f sections })))))
 
+-- where a symbol is defined by the index of a section: 0 is that of none
+abbrev pub in_section : ℕ → SymbolPlace
+in_section n = cond (n == 0) place.Undefined (place.Section n)
+
 -- where a symbol is defined, by its index and the number in its entry
 abbrev pub place_or : Table → ℕ → ℕ → Result SymbolPlace ElfError
 place_or t i n =
@@ -46,7 +50,7 @@ place_or t i n =
     (cond (n == 0xfff1) (Ok place.Absolute)
     (cond (n == 0xfff2) (Ok place.Common)
     (cond (n == 0xffff)
-    (only_if (nat_le (i * 4 + 4) (length t.sections.bytes)) (NoSectionOfSymbol i) (Ok (place.Section (number t.sections (i * 4) 4))))
+    (only_if (nat_le (i * 4 + 4) (length t.sections.bytes)) (NoSectionOfSymbol i) (Ok (in_section (number t.sections (i * 4) 4))))
     (cond (nat_le 0xff00 n) (Ok (place.Reserved n))
     (Ok (place.Section n))))))
 

@@ -41,6 +41,7 @@ pub struct ElfFile<'a> {
 impl<'a> ElfFile<'a> {
     ghost use Rattle.readers.specs.Links.{is_big};
     ghost use Rattle.elf.specs.Files.{parsed, tabled, section_in, section_or, data_of, names_in, words_in};
+    ghost use Rattle.elf.specs.Words.{number_or};
     ghost use Rattle.elf.specs.Links.{header_is};
     ghost use Rattle.elf.specs.FileLinks.{file_is, kind_for};
 
@@ -171,6 +172,28 @@ impl<'a> ElfFile<'a> {
             Some(end) => Ok(&bytes[section.offset as usize..end as usize]),
             None => Err(ElfError::SectionCutOff(section.index)),
         }
+    }
+
+    /// The number of 4 bytes at a place of bytes, in the file's byte order; None if they end before it does.
+    pub fn u32_in(&self, bytes: &'a [u8], at: u64) -> Option<u32>
+        ensures { result ≡ number_or (words_in (file_is self.now) bytes.now) at 4 }
+    {
+        let end = at.checked_add(4)?;
+        if end > bytes.len() as u64 {
+            return None;
+        }
+        Some(self.words_in(bytes).u32_at(at as usize))
+    }
+
+    /// The number of 8 bytes at a place of bytes, likewise.
+    pub fn u64_in(&self, bytes: &'a [u8], at: u64) -> Option<u64>
+        ensures { result ≡ number_or (words_in (file_is self.now) bytes.now) at 8 }
+    {
+        let end = at.checked_add(8)?;
+        if end > bytes.len() as u64 {
+            return None;
+        }
+        Some(self.words_in(bytes).u64_at(at as usize))
     }
 
     // the same file's numbers in other bytes

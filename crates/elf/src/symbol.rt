@@ -141,7 +141,10 @@ impl SymbolTable<'_> {
                 if at + 4 > self.sections.bytes.len() {
                     return Err(ElfError::NoSectionOfSymbol(index as u64));
                 }
-                Ok(SymbolPlace::Section(self.sections.u32_at(at)))
+                match self.sections.u32_at(at) {
+                    0 => Ok(SymbolPlace::Undefined),
+                    section => Ok(SymbolPlace::Section(section)),
+                }
             }
             0xff00..=0xfffe => Ok(SymbolPlace::Reserved(number)),
             _ => Ok(SymbolPlace::Section(number as u32)),

@@ -1,7 +1,7 @@
 -- One entry after another.
 use Rattle.std.proofs.Common.{◌≡◌, Err, Result}
 use Rattle.elf_relocations.specs.declared.error.RelocationError.{RelocationError}
-use Rattle.elf_relocations.specs.declared.error.RelocationError.TheVariants.{Elf, NoMemory, UnknownMachine, UnsupportedRelocation, SymbolWithoutAddress, AddWithoutSub, SubWithoutAdd, DifferentSections, TwoRelocations}
+use Rattle.elf_relocations.specs.declared.error.RelocationError.TheVariants.{Elf, NoMemory, UnknownMachine, UnsupportedRelocation, SymbolWithoutAddress, AddWithoutSub, SubWithoutAdd, DifferentSections, OutsideSection, TwoRelocations, CompactRelocations}
 use Rattle.elf_relocations.specs.TableLinks.{Refused}
 
 -- the error that the definition tells is one to refuse with
@@ -14,4 +14,6 @@ refused (SymbolWithoutAddress s o) r h = h
 refused (AddWithoutSub o) r h = h
 refused (SubWithoutAdd o) r h = h
 refused (DifferentSections o) r h = h
+refused (OutsideSection o) r h = h
 refused (TwoRelocations o) r h = h
+refused (CompactRelocations i) r h = h

@@ -1,26 +1,28 @@
 -- What the entries of a relocation section make of their places.
-use Rattle.std.specs.Prelude.{ℕ, ◌+◌, ◌-◌, ◌%◌, ◌^◌, Bool, cond, false, true, Option, Some, None, Ok, Err, Result, unwrap_or, ◌==◌}
-use Rattle.relocate.specs.declared.policy.RelocationKind.{RelocationKind}
+use Rattle.std.specs.Prelude.{ℕ, ◌+◌, ◌-◌, ◌%◌, ◌^◌, Bool, cond, false, true, List, Option, Some, None, Ok, Err, Result, unwrap_or, ◌==◌}
 use Rattle.relocate.specs.declared.policy.RelocationKind.TheVariants as kind
 use Rattle.elf.specs.declared.relocation.RelocationEntry.{RelocationEntry}
 use Rattle.elf.specs.declared.symbol.SymbolPlace.{SymbolPlace}
 use Rattle.elf.specs.declared.symbol.SymbolPlace.TheVariants as place
-use Rattle.elf.specs.Files.{File, section_or}
+use Rattle.elf.specs.Words.{number_or}
+use Rattle.elf.specs.Files.{File, section_or, words_in}
 use Rattle.elf.specs.Symbols.{Table, symbol_or}
 use Rattle.elf_relocations.specs.declared.error.RelocationError.{RelocationError}
-use Rattle.elf_relocations.specs.declared.error.RelocationError.TheVariants.{UnknownMachine, UnsupportedRelocation, SymbolWithoutAddress, AddWithoutSub, DifferentSections}
+use Rattle.elf_relocations.specs.declared.error.RelocationError.TheVariants.{UnknownMachine, UnsupportedRelocation, SymbolWithoutAddress, AddWithoutSub, DifferentSections, OutsideSection}
 use Rattle.elf_relocations.specs.declared.machine.Machine.{Machine}
 use Rattle.elf_relocations.specs.declared.machine.Width.{Width}
 use Rattle.elf_relocations.specs.declared.machine.Width.TheVariants.{Four, Eight}
 use Rattle.elf_relocations.specs.declared.machine.Action.{Action}
 use Rattle.elf_relocations.specs.declared.machine.Action.TheVariants.{Sub}
 use Rattle.elf_relocations.specs.declared.record.Applied.{Applied}
-use Rattle.elf_relocations.specs.Machines.{machine_of, action_of, wrapped}
+use Rattle.elf_relocations.specs.Machines.{machine_of, action_of, bytes_of, wrapped}
 use Rattle.elf_relocations.specs.Links.{and_then, from_elf}
 
--- what the entries of one relocation section are read by: the file, and the symbols that they name
+-- what the entries of one relocation section are read by: the file, the bytes of the section that they are for, and
+-- the symbols that they name
 pub record Source : Type 0 where
   pub file : File
+  pub bytes : List ℕ
   pub symbols : Table
 
 -- a place that an entry names: its address, and the section in which it lies
@@ -60,18 +62,29 @@ action_by n e None = Err (UnknownMachine n)
 abbrev pub action_or : Source → RelocationEntry → Result Action RelocationError
 action_or s e = action_by s.file.machine e (machine_of s.file.machine)
 
--- an address replaces its place if the entry has an addend, and else is added to it
-abbrev pub kind_by : Option ℕ → RelocationKind
-kind_by (Some _) = kind.Replace
-kind_by None = kind.Add
+-- the number that stands at a place, which has to lie within the section
+abbrev pub within : ℕ → Option ℕ → Result ℕ RelocationError
+within o (Some n) = Ok n
+within o None = Err (OutsideSection o)
 
--- a record at an offset
-abbrev pub record_at : ℕ → RelocationKind → Width → ℕ → Option ℕ → Applied
-record_at o k w a s = record { relocation = record { offset = o; kind = k; amount = wrapped w a }; section = s; width = w }
+abbrev pub standing : Source → ℕ → Width → Result ℕ RelocationError
+standing s o w = within o (number_or (words_in s.file s.bytes) o (bytes_of w))
+
+-- the record that puts at an offset what the width keeps of a number
+abbrev pub record_at : ℕ → Width → ℕ → Option ℕ → Applied
+record_at o w n s = record { relocation = record { offset = o; kind = kind.Replace; amount = wrapped w n }; section = s; width = w }
+
+-- an address, with the number that stands at its place added if the entry has no addend
+abbrev pub with_standing : Option ℕ → ℕ → ℕ → ℕ
+with_standing (Some _) a n = a
+with_standing None a n = plus a n
 
 -- the record of an address
 abbrev pub absolute : Source → RelocationEntry → Width → Result Applied RelocationError
-absolute s e w = and_then (target_of s e) (λ t. Ok (record_at e.offset (kind_by e.addend) w t.address t.section))
+absolute s e w =
+    and_then (target_of s e) (λ t.
+    and_then (standing s e.offset w) (λ n.
+    Ok (record_at e.offset w (with_standing e.addend t.address n) t.section)))
 
 -- whether an action subtracts at a width
 abbrev pub subtracts : Width → Action → Bool
@@ -86,11 +99,12 @@ same_section None None = true
 same_section (Some i) None = false
 same_section None (Some j) = false
 
--- the record of a distance between two places of a section, which is added to what stands at the offset
-abbrev pub distance : RelocationEntry → Width → Target → Target → Result Applied RelocationError
-distance e w end start =
+-- the record of a distance between two places of a section, with the number that stands at the offset added
+abbrev pub distance : Source → RelocationEntry → Width → Target → Target → Result Applied RelocationError
+distance s e w end start =
     cond (same_section end.section start.section)
-    (Ok (record_at e.offset kind.Add w (minus end.address start.address) end.section))
+    (and_then (standing s e.offset w) (λ n.
+    Ok (record_at e.offset w (plus (minus end.address start.address) n) end.section)))
     (Err (DifferentSections e.offset))
 
 -- the record of an entry that adds and the next one, which has to subtract at the same place
@@ -101,6 +115,6 @@ pair s e w next =
     cond (subtracts w a)
     (and_then (target_of s e) (λ end.
     and_then (target_of s next) (λ start.
-    distance e w end start)))
+    distance s e w end start)))
     (Err (AddWithoutSub e.offset))))
     (Err (AddWithoutSub e.offset))

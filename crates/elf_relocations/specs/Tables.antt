@@ -3,11 +3,11 @@ use Rattle.std.specs.Prelude.{ℕ, Bool, cond, ◌&&◌, ◌||◌, List, [], ◌
 use Rattle.std.specs.List.{list_any}
 use Rattle.elf.specs.declared.relocation.RelocationEntry.{RelocationEntry}
 use Rattle.elf.specs.declared.section.Section.{Section}
-use Rattle.elf.specs.Files.{File, section_or, all_sections}
+use Rattle.elf.specs.Files.{File, section_or, data_of, all_sections}
 use Rattle.elf.specs.Symbols.{symbols_of}
 use Rattle.elf.specs.Relocations.{relocations_of}
 use Rattle.elf_relocations.specs.declared.error.RelocationError.{RelocationError}
-use Rattle.elf_relocations.specs.declared.error.RelocationError.TheVariants.{AddWithoutSub, SubWithoutAdd, TwoRelocations}
+use Rattle.elf_relocations.specs.declared.error.RelocationError.TheVariants.{AddWithoutSub, SubWithoutAdd, TwoRelocations, CompactRelocations}
 use Rattle.elf_relocations.specs.declared.machine.Action.{Action}
 use Rattle.elf_relocations.specs.declared.machine.Action.TheVariants.{Nothing, Absolute, Add, Sub}
 use Rattle.elf_relocations.specs.declared.record.Applied.{Applied}
@@ -56,25 +56,30 @@ closed_with m None = Ok m
 abbrev pub closed : Made → Result Made RelocationError
 closed m = closed_with m m.waiting
 
--- the entries of a relocation section, whose link is the table of their symbols
-abbrev pub section_taken : File → Made → Section → Result Made RelocationError
-section_taken f m s =
+-- the entries of a relocation section, whose link is the table of their symbols, for a section with some bytes
+abbrev pub section_taken : File → List ℕ → Made → Section → Result Made RelocationError
+section_taken f bytes m s =
     from_elf (section_or f s.link) (λ t.
     from_elf (symbols_of f t) (λ y.
     from_elf (relocations_of f s) (λ es.
-    and_then (all_taken (record { file = f; symbols = y }) m es) closed)))
+    and_then (all_taken (record { file = f; bytes = bytes; symbols = y }) m es) closed)))
 
 -- whether a section has relocations of the section with an index
 abbrev pub relocates : ℕ → Section → Bool
 relocates target s = (s.kind == 4 || s.kind == 9) && s.info == target
 
--- the relocation sections of a section one after another
-abbrev pub sections_taken : File → ℕ → Made → List Section → Result Made RelocationError
-sections_taken f target m [] = Ok m
-sections_taken f target m (s ∷ ss) =
-    cond (relocates target s)
-    (and_then (section_taken f m s) (λ n. sections_taken f target n ss))
-    (sections_taken f target m ss)
+-- whether a section has them in the compact form, which is not read
+abbrev pub relocates_compactly : ℕ → Section → Bool
+relocates_compactly target s = s.kind == 0x40000014 && s.info == target
+
+-- the relocation sections of a section, which is the one with an index and has some bytes, one after another
+abbrev pub sections_taken : File → ℕ → List ℕ → Made → List Section → Result Made RelocationError
+sections_taken f target bytes m [] = Ok m
+sections_taken f target bytes m (s ∷ ss) =
+    cond (relocates_compactly target s) (Err (CompactRelocations s.index))
+    (cond (relocates target s)
+    (and_then (section_taken f bytes m s) (λ n. sections_taken f target bytes n ss))
+    (sections_taken f target bytes m ss))
 
 -- the first of some offsets that was seen before it
 abbrev pub repeated : List ℕ → List ℕ → Option ℕ
@@ -94,6 +99,8 @@ checked rs = refused_at (repeated [] (map (λ r. r.relocation.offset) rs))
 abbrev pub table_of : File → ℕ → Result (List Applied) RelocationError
 table_of f target =
     cond (f.kind == 1)
-    (and_then (sections_taken f target (made [] None) (all_sections f)) (λ m.
-    and_then (checked m.records) (λ _. Ok m.records)))
+    (from_elf (section_or f target) (λ s.
+    from_elf (data_of f s) (λ bytes.
+    and_then (sections_taken f target bytes (made [] None) (all_sections f)) (λ m.
+    and_then (checked m.records) (λ _. Ok m.records)))))
     (Ok [])

@@ -4,7 +4,7 @@ use Rattle.elf.specs.Texts as elf
 use Rattle.elf_relocations.specs.declared.machine.Machine.{Machine}
 use Rattle.elf_relocations.specs.declared.machine.Machine.TheVariants.{I386, Mips, PowerPc, PowerPc64, Arm, X8664, AArch64, RiscV}
 use Rattle.elf_relocations.specs.declared.error.RelocationError.{RelocationError}
-use Rattle.elf_relocations.specs.declared.error.RelocationError.TheVariants.{Elf, NoMemory, UnknownMachine, UnsupportedRelocation, SymbolWithoutAddress, AddWithoutSub, SubWithoutAdd, DifferentSections, TwoRelocations}
+use Rattle.elf_relocations.specs.declared.error.RelocationError.TheVariants.{Elf, NoMemory, UnknownMachine, UnsupportedRelocation, SymbolWithoutAddress, AddWithoutSub, SubWithoutAdd, DifferentSections, OutsideSection, TwoRelocations, CompactRelocations}
 
 abbrev pub machine_name : Machine → List ℕ
 machine_name I386 = codes "i386"
@@ -27,4 +27,6 @@ text (SymbolWithoutAddress s o) =
 text (AddWithoutSub o) = codes "the relocation at offset " ++ (decimal o ++ codes " adds an address, and none is subtracted behind it")
 text (SubWithoutAdd o) = codes "the relocation at offset " ++ (decimal o ++ codes " subtracts an address, and none is added before it")
 text (DifferentSections o) = codes "the relocations at offset " ++ (decimal o ++ codes " need the distance between two sections")
+text (OutsideSection o) = codes "the place of the relocation at offset " ++ (decimal o ++ codes " does not lie within the section")
 text (TwoRelocations o) = codes "two relocations are for the place at offset " ++ decimal o
+text (CompactRelocations i) = codes "the relocations in section " ++ (decimal i ++ codes " are in the compact form, which is not read")

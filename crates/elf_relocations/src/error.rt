@@ -33,8 +33,12 @@ pub enum RelocationError {
     SubWithoutAdd(u64),
     /// An address is subtracted from one in another section, which only the linker can do.
     DifferentSections(u64),
+    /// The place does not lie within the section.
+    OutsideSection(u64),
     /// Two relocations of one place.
     TwoRelocations(u64),
+    /// The section with the index has relocations in ELF's compact form (SHT_CREL), which is not read.
+    CompactRelocations(u64),
 }
 
 /// Writes one sentence.
@@ -85,8 +89,20 @@ impl fmt::Display for RelocationError {
                     "the relocations at offset {offset} need the distance between two sections"
                 )
             }
+            RelocationError::OutsideSection(offset) => {
+                write!(
+                    f,
+                    "the place of the relocation at offset {offset} does not lie within the section"
+                )
+            }
             RelocationError::TwoRelocations(offset) => {
                 write!(f, "two relocations are for the place at offset {offset}")
+            }
+            RelocationError::CompactRelocations(index) => {
+                write!(
+                    f,
+                    "the relocations in section {index} are in the compact form, which is not read"
+                )
             }
         }
     }

@@ -1,5 +1,6 @@
 // What one relocation, or a pair of them, makes of its place: a record of a relocation table.
 ghost use Rattle.std.specs.Prelude.{◌≡◌};
+ghost use Rattle.elf_relocations.specs.Records.{record_at};
 
 use crate::error::RelocationError;
 use crate::machine::{Action, Machine, Width};
@@ -26,11 +27,13 @@ struct Target {
 #[derive(Clone, Copy)]
 pub struct Source<'a> {
     pub file: ElfFile<'a>,
+    /// The bytes of the section that they are for.
+    pub bytes: &'a [u8],
     pub symbols: SymbolTable<'a>,
 }
 
 impl Source<'_> {
-    ghost use Rattle.elf_relocations.specs.Records.{target_of, action_or, absolute, pair};
+    ghost use Rattle.elf_relocations.specs.Records.{target_of, standing, action_or, absolute, pair};
     ghost use Rattle.elf_relocations.specs.RecordLinks.{source_is, target_is};
     ghost use Rattle.elf_relocations.specs.Links.{result_is};
 
@@ -61,6 +64,17 @@ impl Source<'_> {
         }
     }
 
+    // the number that stands at a place of the section
+    fn standing(&self, offset: u64, width: Width) -> Result<u64, RelocationError>
+        ensures { result ≡ standing (source_is self.now) offset width }
+    {
+        let number = match width {
+            Width::Four => self.file.u32_in(self.bytes, offset).map(u64::from),
+            Width::Eight => self.file.u64_in(self.bytes, offset),
+        };
+        number.ok_or(RelocationError::OutsideSection(offset))
+    }
+
     /// What an entry does; a machine or a kind that is not known is refused.
     pub fn action(&self, entry: &RelocationEntry) -> Result<Action, RelocationError>
         ensures { result ≡ action_or (source_is self.now) entry.now }
@@ -76,7 +90,7 @@ impl Source<'_> {
             })
     }
 
-    /// The record of an address: it replaces the place if the entry has an addend, and else is added to it.
+    /// The record of an address, which is added to what stands at the place where the entry has no addend.
     pub fn absolute(
         &self,
         entry: &RelocationEntry,
@@ -85,22 +99,16 @@ impl Source<'_> {
         ensures { result ≡ absolute (source_is self.now) entry.now width }
     {
         let target = self.target(entry)?;
-        let kind = match entry.addend {
-            Some(_) => RelocationKind::Replace,
-            None => RelocationKind::Add,
+        let standing = self.standing(entry.offset, width)?;
+        let address = match entry.addend {
+            Some(_) => target.address,
+            None => target.address.wrapping_add(standing),
         };
-        Ok(Applied {
-            relocation: Relocation {
-                offset: entry.offset,
-                kind,
-                amount: width.wrap(target.address),
-            },
-            section: target.section,
-            width,
-        })
+        Ok(replaced(entry.offset, width, address, target.section))
     }
 
-    /// The record of a distance, which one entry adds to and the next subtracts from at the same place.
+    /// The record of a distance, from the address of the second entry to that of the first, added to what stands at
+    /// their place.
     pub fn pair(
         &self,
         add: &RelocationEntry,
@@ -117,14 +125,28 @@ impl Source<'_> {
         if end.section != start.section {
             return Err(RelocationError::DifferentSections(add.offset));
         }
-        Ok(Applied {
-            relocation: Relocation {
-                offset: add.offset,
-                kind: RelocationKind::Add,
-                amount: width.wrap(end.address.wrapping_sub(start.address)),
-            },
-            section: end.section,
+        let standing = self.standing(add.offset, width)?;
+        let distance = end.address.wrapping_sub(start.address);
+        Ok(replaced(
+            add.offset,
             width,
-        })
+            distance.wrapping_add(standing),
+            end.section,
+        ))
+    }
+}
+
+// the record that puts the low bytes of a number in a place
+fn replaced(offset: u64, width: Width, number: u64, section: Option<u32>) -> Applied
+    ensures { result ≡ record_at offset width number section }
+{
+    Applied {
+        relocation: Relocation {
+            offset,
+            kind: RelocationKind::Replace,
+            amount: width.wrap(number),
+        },
+        section,
+        width,
     }
 }

@@ -1,6 +1,6 @@
 // The records of a section: what all relocation entries for it make, one after another.
 ghost use Rattle.std.specs.Prelude.{◌≡◌, map, IfOk, [], None};
-ghost use Rattle.elf_relocations.specs.Tables.{relocates, checked, table_of};
+ghost use Rattle.elf_relocations.specs.Tables.{relocates, relocates_compactly, checked, table_of};
 ghost use Rattle.elf_relocations.specs.TableLinks.{Took, Answered};
 ghost use Rattle.elf.specs.FileLinks.{file_is};
 
@@ -16,6 +16,8 @@ use std::collections::BTreeSet;
 const WITH_ADDENDS: u32 = 4;
 
 const WITHOUT_ADDENDS: u32 = 9;
+
+const COMPACT: u32 = 0x4000_0014;
 
 // an entry that adds an address, and waits for the next one to subtract another
 #[derive(Clone, Copy)]
@@ -48,12 +50,20 @@ impl Made {
     }
 
     // the relocation sections of a section one after another
-    fn take_sections(&mut self, file: &ElfFile, target: u64) -> Result<(), RelocationError>
-        ensures { Took result (made_is self.new) (sections_taken (file_is file.now) target (made_is self.old) (all_sections (file_is file.now))) }
+    fn take_sections(
+        &mut self,
+        file: &ElfFile,
+        target: u64,
+        bytes: &[u8],
+    ) -> Result<(), RelocationError>
+        ensures { Took result (made_is self.new) (sections_taken (file_is file.now) target bytes.now (made_is self.old) (all_sections (file_is file.now))) }
     {
         for section in file.sections() {
+            if relocates_compactly(&section, target) {
+                return Err(RelocationError::CompactRelocations(section.index));
+            }
             if relocates(&section, target) {
-                self.take_section(file, &section)?;
+                self.take_section(file, bytes, &section)?;
             }
         }
         Ok(())
@@ -80,12 +90,18 @@ impl Made {
     }
 
     // the entries of one relocation section, whose link is the table of their symbols
-    fn take_section(&mut self, file: &ElfFile, section: &Section) -> Result<(), RelocationError>
-        ensures { Took result (made_is self.new) (section_taken (file_is file.now) (made_is self.old) section.now) }
+    fn take_section(
+        &mut self,
+        file: &ElfFile,
+        bytes: &[u8],
+        section: &Section,
+    ) -> Result<(), RelocationError>
+        ensures { Took result (made_is self.new) (section_taken (file_is file.now) bytes.now (made_is self.old) section.now) }
     {
         let table = file.section(section.link as u64)?;
         let source = Source {
             file: *file,
+            bytes,
             symbols: file.symbols(&table)?,
         };
         self.take_all(&source, file.relocations(section)?)?;
@@ -115,7 +131,8 @@ pub fn relocations_for(
 {
     let mut made = Made::new(heap);
     if file.kind() == FileKind::Relocatable {
-        made.take_sections(file, section)?;
+        let bytes = file.data(&file.section(section)?)?;
+        made.take_sections(file, section, bytes)?;
         check_places(heap, &made.records)?;
     }
     Ok(made.records)
@@ -134,6 +151,13 @@ fn relocates(section: &Section, target: u64) -> bool
 {
     let entries = section.kind == WITH_ADDENDS || section.kind == WITHOUT_ADDENDS;
     entries && section.info as u64 == target
+}
+
+// whether a section has them in the compact form
+fn relocates_compactly(section: &Section, target: u64) -> bool
+    ensures { result ≡ relocates_compactly target section.now }
+{
+    section.kind == COMPACT && section.info as u64 == target
 }
 
 // no two records may be for one place: it would show only one of them

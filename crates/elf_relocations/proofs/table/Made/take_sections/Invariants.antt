@@ -9,5 +9,5 @@ use Rattle.elf_relocations.proofs.table.Made.take_sections.Given as goal
 -- the sections left make of what is made so far what all make
 abbrev pub invariant-loop-section : goal.invariant-loop-section
 invariant-loop-section l =
-    sections_taken (file_is l.file) l.target (made_is l.self) (left l.section-iterator)
-    ≡ sections_taken (file_is l.file) l.target (made_is l.initial.self) (all_sections (file_is l.file))
+    sections_taken (file_is l.file) l.target l.bytes (made_is l.self) (left l.section-iterator)
+    ≡ sections_taken (file_is l.file) l.target l.bytes (made_is l.initial.self) (all_sections (file_is l.file))
