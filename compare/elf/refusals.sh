@@ -9,13 +9,13 @@ set -euo pipefail
 [ $# = 3 ] || { sed -n '2,8s/^# \{0,1\}//p' "$0" >&2; exit 2; }
 program=$1 object=$2 dir=$3
 mkdir -p "$dir"
-failed=0 tried=0
+failed=0 tried=0 input=/dev/null
 
-# refused STATUS SENTENCE WORD..: runs the program with the words, and expects a sentence behind `addr2unit: `.
+# refused STATUS SENTENCE WORD..: runs the program with the words and $input, and expects a sentence behind `addr2unit: `.
 refused() {
     local status=$1 sentence="addr2unit: $2" code=0 why=
     shift 2
-    "$program" "$@" 0 </dev/null >"$dir/out" 2>"$dir/err" || code=$?
+    "$program" "$@" <"$input" >"$dir/out" 2>"$dir/err" || code=$?
     [ $code = "$status" ] || why="status $code in place of $status"
     [ ! -s "$dir/out" ] || why="$why; something on standard output"
     [ "$(cat "$dir/err")" = "$sentence" ] && [ "$(wc -l <"$dir/err")" = 1 ] || why="$why; it says: $(cat "$dir/err")"
@@ -92,9 +92,13 @@ refused 1 "$dir/entry.o: entries of the section table have 40 bytes, which this 
 cp "$object" "$dir/names.o"; put "$dir/names.o" 62 '\x00\x00'
 refused 1 "$dir/names.o: the file has no table of section names" "$dir/names.o"
 
+refused 2 "no file is named: addr2unit --help tells the usage"
 refused 2 "there is no option \"--frob\": addr2unit --help tells the usage" --frob "$object"
 refused 2 "\"zz\" is not a hexadecimal address" "$object" zz
 refused 2 "\"10000000000000000\" is an address of more than 64 bits" "$object" 10000000000000000
+printf '5\n\nxyz\n' >"$dir/lines"
+input=$dir/lines
+refused 2 "\"xyz\" is not a hexadecimal address" "$object"
 
 echo "$tried refusals tried"
 exit $failed
