@@ -47,7 +47,7 @@ for tool in clang ld.lld rustc gcc ld readelf llvm-dwarfdump eu-addr2line; do
 done
 if [ ! -s "$list" ]; then
     rm -rf "$files"
-    "$here/make.py" "$seed" "$files" >"$list.new"
+    PYTHONDONTWRITEBYTECODE=1 "$here/make.py" "$seed" "$files" >"$list.new"
     mv "$list.new" "$list"
 fi
 
