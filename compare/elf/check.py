@@ -45,7 +45,10 @@ def hexadecimal(line, name):
 Section = collections.namedtuple("Section", "name offset size")
 
 # `at` is the place in the section that is changed, `home` the index of the symbol's section, or what readelf has in its place
-Relocation = collections.namedtuple("Relocation", "at kind symbol home")
+class Relocation(collections.namedtuple("Relocation", "at kind symbol home")):
+    def width(self):
+        """How many bytes are changed: the names of the types that change eight end so."""
+        return 8 if self.kind.endswith("64") else 4
 
 
 class Set:
@@ -125,7 +128,21 @@ class File:
         for one in self.relocations:
             if one.home in ("UND", "COM"):
                 return f"the relocation at offset {one.at} needs symbol {one.symbol}, which has no address in the file"
+        fields = self.fields()
+        for one in self.relocations:
+            if fields.get(one.at) != one.width():
+                return f"relocation at offset {one.at} of .debug_aranges is of no address or offset that is read"
         return None
+
+    def fields(self):
+        """The numbers that may be relocated, by their places, with their bytes."""
+        fields = {}
+        for one in self.sets:
+            fields[one.place + (6 if one.word == 4 else 14)] = one.word
+            for index in range((one.end - one.first_tuple()) // (2 * one.size)):
+                for half in (0, one.size):
+                    fields[one.first_tuple() + 2 * one.size * index + half] = one.size
+        return fields
 
     def ranges(self):
         """Each tuple that counts: its set, its place, begin and end; the end is None where it does not fit."""
