@@ -2,7 +2,7 @@
 use Rattle.std.proofs.Common.{◌≡◌, ℕ, ◌^◌, Bool, true, Option, Some, None, map, option_map, slice_get, ◌+◌, ◌<◌, ◌≤◌, List, [], ◌∷◌, ◌++◌, length, get_or, drop, Ok, Err, Result, sym, refl, ap, ◌∙◌, append_assoc, append-nil}
 use Rattle.std.proofs.lemmas.List.{drop_more, drop_all}
 use Rattle.unit_report.specs.declared.refusal.Refusal.{Refusal}
-use Rattle.unit_report.specs.declared.refusal.Refusal.TheVariants.{Elf, Relocation, NoSection, Compressed, NoMemory}
+use Rattle.unit_report.specs.declared.refusal.Refusal.TheVariants.{Elf, Relocation, NoSection, Compressed, UnreadRelocation, NoMemory}
 use Rattle.elf_relocations.specs.declared.error.RelocationError.TheVariants as relocation
 use Rattle.unit_report.specs.Images.{Image, and_then, aranges_of}
 use Rattle.unit_report.specs.ImageLinks.{Refused}
@@ -76,6 +76,7 @@ refused (Relocation (relocation.TwoRelocations o)) r h = h
 refused (Relocation (relocation.CompactRelocations i)) r h = h
 refused NoSection r h = h
 refused Compressed r h = h
+refused (UnreadRelocation o) r h = h
 refused NoMemory r h = tt
 
 -- the report that halts, and the one that is complete, from a survey t

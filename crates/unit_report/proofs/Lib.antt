@@ -1,3 +1,5 @@
+pub mod Folds
+pub mod FieldsRead
 pub mod Tallies
 pub mod Counts
 pub mod PlacesFound

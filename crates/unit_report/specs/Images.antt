@@ -11,6 +11,7 @@ use Rattle.elf_relocations.specs.declared.error.RelocationError.{RelocationError
 use Rattle.elf_relocations.specs.declared.record.Applied.{Applied}
 use Rattle.elf_relocations.specs.Tables.{table_of}
 use Rattle.unit_report.specs.declared.refusal.Refusal.{Refusal}
+use Rattle.unit_report.specs.Fields.{checked}
 use Rattle.unit_report.specs.declared.refusal.Refusal.TheVariants.{Elf, Relocation, NoSection, Compressed}
 
 -- a file, its section, the section's bytes, and the relocations of the section
@@ -55,6 +56,10 @@ aranges_section f =
     from_elf (named f (codes ".debug_aranges")) (λ s.
     plain_section s (from_elf (named f (codes ".zdebug_aranges")) missing))
 
+-- an image each of whose relocations is of a number that is read
+abbrev pub fitting : Image → Result Image Refusal
+fitting i = and_then (checked (2 ^ 64) (aranges_of i) i.applied) (λ _. Ok i)
+
 -- what the bytes of a file have
 abbrev pub opened : List ℕ → Result Image Refusal
 opened bytes =
@@ -62,4 +67,4 @@ opened bytes =
     and_then (aranges_section f) (λ s.
     from_elf (data_of f s) (λ d.
     from_relocation (table_of f s.index) (λ rs.
-    Ok (record { file = f; section = s; bytes = d; applied = rs })))))
+    fitting (record { file = f; section = s; bytes = d; applied = rs })))))

@@ -1,6 +1,9 @@
 pub mod Addresses
 pub mod Surveys
 pub mod SurveyLinks
+pub mod Folds
+pub mod Fields
+pub mod FieldLinks
 pub mod Refusals
 pub mod Images
 pub mod ImageLinks

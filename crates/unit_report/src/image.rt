@@ -5,6 +5,7 @@ ghost use Rattle.relocate.specs.Relocating.{by_table, layered};
 ghost use Rattle.elf.specs.FileLinks.{file_is};
 ghost use Rattle.unit_report.specs.Images.{aranges_section, opened, aranges_of};
 
+use crate::fields::check_records;
 use crate::refusal::Refusal;
 use aranges::DebugAranges;
 use elf::{ElfFile, Section};
@@ -45,13 +46,15 @@ impl<'a> Image<'a> {
         let bytes = file.data(&section)?;
         let applied = relocations_for(heap, &file, section.index)?;
         let records = records(heap, &applied)?;
-        Ok(Image {
+        let image = Image {
             file,
             section,
             bytes,
             applied,
             records,
-        })
+        };
+        check_records(heap, &image.aranges(), &image.applied)?;
+        Ok(image)
     }
 
     /// The section as it is read, ids being places in it.

@@ -3,6 +3,7 @@
 
 mod address;
 mod arguments;
+mod fields;
 mod image;
 mod lines;
 mod place;

@@ -19,6 +19,8 @@ pub enum Refusal {
     NoSection,
     /// The section is compressed.
     Compressed,
+    /// A relocation is of no number that is read, by its place.
+    UnreadRelocation(u64),
     NoMemory,
 }
 
@@ -34,6 +36,10 @@ impl fmt::Display for Refusal {
             Refusal::Compressed => write!(
                 f,
                 "section .debug_aranges is compressed: objcopy --decompress-debug-sections undoes that"
+            ),
+            Refusal::UnreadRelocation(offset) => write!(
+                f,
+                "relocation at offset {offset} of .debug_aranges is of no address or offset that is read"
             ),
             Refusal::NoMemory => write!(f, "there is not enough memory for the report"),
         }
