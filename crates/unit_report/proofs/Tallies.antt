@@ -1,20 +1,18 @@
--- A survey of one set from what next answers, and of the sets from what next header answers.
-use Rattle.std.proofs.Common.{◌≡◌, ℕ, List, zero, suc, ◌-◌, ◌*◌, ◌<◌, ◌≤◌, length, Some, None, Ok, Err, Option, Result, sym, refl, ap, ◌∙◌, subst, arith, length-drop, option_map}
+-- A survey of one set from what next answers.
+use Rattle.std.proofs.Common.{◌≡◌, ℕ, List, zero, suc, ◌*◌, ◌<◌, ◌≤◌, length, Some, None, Ok, Err, Option, Result, sym, refl, ap, subst, arith, length-drop}
 use native.Mathlib.Nat.{zero-div}
 use Rattle.readers.specs.declared.error.Error.{Error}
-use Rattle.readers.specs.Links.{Did, outcome_is, fault_is}
-use Rattle.readers.specs.Outcome.{Outcome, answer, fault, numbered}
+use Rattle.readers.specs.Links.{fault_is}
+use Rattle.readers.specs.Outcome.{numbered}
 use Rattle.readers.specs.Reading.{Meaning, past, emptied}
 use Rattle.aranges.specs.declared.aranges.ArangeEntry.{ArangeEntry}
-use Rattle.aranges.specs.Sets.{Header}
 use Rattle.aranges.specs.Tuples as says
 use Rattle.aranges.specs.Tuples.{converted, Says, nothing, entry, overflow, refused, Told, found, failed, over, two}
-use Rattle.aranges.specs.Iterators.{Left, first, count, draw, next_set}
+use Rattle.aranges.specs.Iterators.{Left, first, count, draw}
 use Rattle.aranges.specs.Links.{Drew, told_is}
 use Rattle.aranges.proofs.Draws.{left, first_by, first_more}
 use Rattle.aranges.proofs.Converts.{counted}
-use Rattle.aranges.proofs.Shorter.{next_shorter, next_none}
-use Rattle.unit_report.specs.Surveys.{Odd, Tally, with_range, with_tuple, tally, tally_left, tally_set, tally_by, tally_sets}
+use Rattle.unit_report.specs.Surveys.{Odd, Tally, with_range, with_tuple, tally, tally_left}
 
 -- what the tally x of a set is, by next's answer, which leaves b
 abbrev Goes : ℕ → ℕ → ℕ → Meaning → Told → Meaning → Tally → Tally → Type 0
@@ -85,44 +83,6 @@ tallies p i l b t r d =
     subst (λ (o : Told). Goes p i l.size l.tuples o x.1 t (tally_left p i l t)) (sym d.answers) (goes p i l.size (count l.size l.tuples) l.tuples t refl) in
     subst (λ (y : Left). Tallies p i l t r y) (sym d.leaves) (tallies_at p i l t x.1 r g)
 
--- enough fuel is as good as any
-tally_by_same : (p : ℕ) (o : Outcome (Option Header)) (t : Tally) (j k : Tally → Tally) → ((h : Header) → o ≡ answer (Some h) → (u : Tally) → j u ≡ k u) → tally_by p o t j ≡ tally_by p o t k
-tally_by_same p (answer None) t j k q = refl
-tally_by_same p (answer (Some h)) t j k q = q h refl (tally_set h t)
-tally_by_same p (fault f) t j k q = refl
-
-tally_empty : (limit b n : ℕ) (m : Meaning) (t : Tally) → length m.rest ≡ 0 → tally_sets limit b n m t ≡ t
-tally_empty limit b zero m t z = refl
-tally_empty limit b (suc n) m t z =
-    ap (λ (o : Outcome (Option Header)). tally_by (m.id - b) o t (λ u. tally_sets limit b n (next_set limit b m).after u)) (next_none limit b m z)
-
-tally_fuel : (limit b n k : ℕ) (m : Meaning) (t : Tally) → length m.rest ≤ n → length m.rest ≤ k → tally_sets limit b n m t ≡ tally_sets limit b k m t
-tally_fuel limit b zero k m t p q = sym (tally_empty limit b k m t (omega arith))
-tally_fuel limit b (suc n) zero m t p q = tally_empty limit b (suc n) m t (omega arith)
-tally_fuel limit b (suc n) (suc k) m t p q =
-    tally_by_same (m.id - b) (next_set limit b m).outcome t (λ u. tally_sets limit b n (next_set limit b m).after u) (λ u. tally_sets limit b k (next_set limit b m).after u)
-    (λ h e u. let s = next_shorter limit b m h e in tally_fuel limit b n k (next_set limit b m).after u (omega arith) (omega arith))
-
--- a tally with fuel enough, one set on
-abbrev pub tally_all : ℕ → ℕ → Meaning → Tally → Tally
-tally_all limit b m t = tally_sets limit b (length m.rest) m t
-
-tally_step : (limit b : ℕ) (m : Meaning) (t : Tally)
-    → tally_all limit b m t ≡ tally_by (m.id - b) (next_set limit b m).outcome t (λ u. tally_all limit b (next_set limit b m).after u)
-tally_step limit b m t =
-    tally_fuel limit b (length m.rest) (suc (length m.rest)) m t (omega arith) (omega arith)
-    ∙ tally_by_same (m.id - b) (next_set limit b m).outcome t (λ u. tally_sets limit b (length m.rest) (next_set limit b m).after u) (λ u. tally_all limit b (next_set limit b m).after u)
-    (λ h e u. let s = next_shorter limit b m h e in tally_fuel limit b (length m.rest) (length (next_set limit b m).after.rest) (next_set limit b m).after u (omega arith) (omega arith))
-
--- a tally by what next header answered, which leaves `after`
-pub tally_next : {A : Type 0} (f : A → Header) (limit b s : ℕ) (m after : Meaning) (t : Tally) (r : Result (Option A) Error) → s ≡ b → Did (option_map f) r after (next_set limit s m)
-    → tally_all limit b m t ≡ tally_by (m.id - b) (outcome_is (option_map f) r) t (λ u. tally_all limit b after u)
-tally_next {A = A} f limit b s m after t r q d =
-    let e : Did (option_map f) r after (next_set limit b m) = subst (λ (x : ℕ). Did (option_map f) r after (next_set limit x m)) q d in
-    tally_step limit b m t
-    ∙ ap (λ (o : Outcome (Option Header)). tally_by (m.id - b) o t (λ u. tally_all limit b (next_set limit b m).after u)) (sym e.answers)
-    ∙ ap (λ (n : Meaning). tally_by (m.id - b) (outcome_is (option_map f) r) t (λ u. tally_all limit b n u)) (sym e.leaves)
-
 -- next's answer in the arm of a match
 pub tallies_ok : (p i : ℕ) (l b : Left) (t : Tally) (o x : Option ArangeEntry) → o ≡ x → Drew (Ok o) b (draw converted l) → Tallies p i l t (Ok x) b
 tallies_ok p i l b t o x e d = tallies p i l b t (Ok x) (subst (λ (y : Option ArangeEntry). Drew (Ok y) b (draw converted l)) e d)
@@ -133,14 +93,3 @@ same_size l b r d = ap (λ (x : Left). x.size) d.leaves
 
 abbrev pub tallied : ℕ → ℕ → List Odd → Tally
 tallied n k os = record { sets = n; ranges = k; oddities = os }
-
--- the arms of a match on what next header answered
-pub in_set : {A : Type 0} (f : A → Header) (limit b s : ℕ) (m after : Meaning) (t : Tally) (o : Option A) (x : A) → o ≡ Some x → s ≡ b → Did (option_map f) (Ok o) after (next_set limit s m)
-    → tally_all limit b m t ≡ tally_all limit b after (tally_set (f x) t)
-in_set {A = A} f limit b s m after t o x e q d =
-    tally_next f limit b s m after t (Ok (Some x)) q (subst (λ (y : Option A). Did (option_map f) (Ok y) after (next_set limit s m)) e d)
-
-pub at_end : {A : Type 0} (f : A → Header) (limit b s : ℕ) (m after : Meaning) (t : Tally) (o : Option A) → o ≡ None → s ≡ b → Did (option_map f) (Ok o) after (next_set limit s m)
-    → tally_all limit b m t ≡ t
-at_end {A = A} f limit b s m after t o e q d =
-    tally_next f limit b s m after t (Ok None) q (subst (λ (y : Option A). Did (option_map f) (Ok y) after (next_set limit s m)) e d)

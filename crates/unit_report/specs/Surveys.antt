@@ -1,11 +1,12 @@
 -- A survey of a section: it takes the answers of next from every set in turn, counts the ranges, and notes what is odd.
-use Rattle.std.specs.Prelude.{ℕ, zero, suc, ◌+◌, ◌-◌, ◌*◌, ◌/◌, Bool, true, false, cond, List, [], ◌∷◌, ◌++◌, length, Some, None, Option}
-use Rattle.readers.specs.Outcome.{Outcome, Fault, answer, fault, numbered}
+use Rattle.std.specs.Prelude.{ℕ, zero, suc, ◌+◌, ◌-◌, ◌*◌, ◌/◌, Bool, true, false, cond, List, [], ◌∷◌, ◌++◌}
+use Rattle.readers.specs.Outcome.{Fault, numbered}
 use Rattle.readers.specs.Reading.{Meaning, past}
 use Rattle.aranges.specs.Sets.{Header}
 use Rattle.aranges.specs.Tuples as says
 use Rattle.aranges.specs.Tuples.{converted, nothing, entry, overflow, refused, two}
-use Rattle.aranges.specs.Iterators.{Left, entries_of, count, next_set}
+use Rattle.aranges.specs.Iterators.{Left, entries_of, count}
+use Rattle.unit_report.specs.Folds.{fold_section}
 
 -- what is odd: a tuple, by its set's place and its number, with its fault; or the header of the set at a place
 pub data Odd : Type 0 where
@@ -65,18 +66,10 @@ tally_left p first l t = tally p first l.size (count l.size l.tuples) l.tuples t
 abbrev pub tally_set : Header → Tally → Tally
 tally_set h t = tally_left h.place h.tuples.id (entries_of h) (with_set t)
 
--- what next header gives at place p: none, a set, or a fault, which ends the section
-abbrev pub tally_by : ℕ → Outcome (Option Header) → Tally → (Tally → Tally) → Tally
-tally_by p (answer None) t k = t
-tally_by p (answer (Some h)) t k = k (tally_set h t)
-tally_by p (fault f) t k = with_odd t (header p f)
+-- the header of the set at place p, which can't be read
+abbrev pub with_header : ℕ → Fault → Tally → Tally
+with_header p f t = with_odd t (header p f)
 
--- from the reader on, over at most n sets of the section that begins at the id `start`
-abbrev pub tally_sets : ℕ → ℕ → ℕ → Meaning → Tally → Tally
-tally_sets limit start zero m t = t
-tally_sets limit start (suc n) m t =
-    tally_by (m.id - start) (next_set limit start m).outcome t (λ u. tally_sets limit start n (next_set limit start m).after u)
-
--- a whole section, which has at most as many sets as bytes
+-- a whole section
 abbrev pub survey_in : ℕ → Meaning → Tally
-survey_in limit m = tally_sets limit m.id (length m.rest) m nothing_read
+survey_in limit m = fold_section tally_set with_header limit m nothing_read

@@ -1,9 +1,9 @@
 use Rattle.std.proofs.Common.{sym, ap, ◌∙◌, arith}
 use Rattle.aranges.specs.Links.{header_is}
 use Rattle.walk.proofs.Looks.{looks_shorter}
-use Rattle.unit_report.specs.Surveys.{Tally}
+use Rattle.unit_report.specs.Surveys.{Tally, tally_set, with_header}
 use Rattle.unit_report.specs.SurveyLinks.{survey_is}
-use Rattle.unit_report.proofs.Tallies.{tally_all, in_set}
+use Rattle.unit_report.proofs.Folds.{fold_all, fold_set}
 use Rattle.unit_report.proofs.survey.survey_section.Goals as goal
 
 pub read_set-requires-clause-room : goal.read_set-requires-clause-room
@@ -30,8 +30,8 @@ loop-survey-preserved g c =
     let i = (g.R.Reader.means c.args.section.now.section).id in
     let t = g.R.Offset.ReaderOffset.limit in
     let s = looks_shorter f t c.loop-survey.headers.start m a c.in-Ok-Some.field-0 c.in-Ok-Some.header c.in-Ok-Some.field-0-is c.in-Ok-Some.ensures.did in
-    let e = in_set f t i c.loop-survey.headers.start m a (survey_is c.loop-survey.survey) c.in-Ok-Some.field-0 c.in-Ok-Some.header c.in-Ok-Some.field-0-is c.loop-survey.invariant.3 c.in-Ok-Some.ensures.did in (
-      ap (λ (u : Tally). tally_all t i a u) c.in_ok-read_set-in-Ok-Some.ensures.tallies ∙ sym e ∙ c.loop-survey.invariant.0,
+    let e = fold_set tally_set with_header t i f c.loop-survey.headers.start m a (survey_is c.loop-survey.survey) c.in-Ok-Some.field-0 c.in-Ok-Some.header c.in-Ok-Some.field-0-is c.loop-survey.invariant.3 c.in-Ok-Some.ensures.did in (
+      ap (λ (u : Tally). fold_all tally_set with_header t i a u) c.in_ok-read_set-in-Ok-Some.ensures.tallies ∙ sym e ∙ c.loop-survey.invariant.0,
       omega (arith, s, c.loop-survey.invariant.1, c.in_ok-read_set-in-Ok-Some.ensures.sets),
       omega (arith, s, c.loop-survey.invariant.2, c.in_ok-read_set-in-Ok-Some.ensures.bound),
       c.in-Ok-Some.ensures.start ∙ c.loop-survey.invariant.3,
