@@ -7,8 +7,14 @@ cd "$(dirname "${BASH_SOURCE[0]}")/.."
 built=$(mktemp -d)
 trap 'rm -rf "$built"' EXIT
 
+# clang writes .debug_aranges only where it is asked to
+case $(cc --version) in
+*clang*) debug=(-g -gdwarf-aranges) ;;
+*) debug=(-g) ;;
+esac
 with_library() {
-    cc -Wall -Wextra -Werror -g -I crates/mallethill/include "$1" crates/mallethill/out/libmallethill.a -o "$2"
+    cc -Wall -Wextra -Werror "${debug[@]}" -I crates/mallethill/include "$1" crates/mallethill/out/libmallethill.a \
+        -o "$2"
 }
 
 with_library c/test.c "$built/test"

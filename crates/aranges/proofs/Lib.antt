@@ -1,3 +1,6 @@
 pub mod Draws
-pub mod Converts
+pub mod Alone
+pub mod Visits
+pub mod Parses
 pub mod Shorter
+pub mod Few

@@ -1,4 +1,5 @@
 pub mod Sets
 pub mod Tuples
 pub mod Iterators
+pub mod Answers
 pub mod Links

@@ -1,14 +1,35 @@
--- How a file stands for what its bytes say of it.
-use Rattle.std.specs.Prelude.{ℕ, cond, ◌==◌}
-use Rattle.elf.specs.declared.file.FileKind.{FileKind}
-use Rattle.elf.specs.declared.file.FileKind.TheVariants.{Relocatable, Executable, Shared, Other}
+-- How a file, the parts of it, and what iterators over them have left stand for what the bytes say.
+use Rattle.std.specs.Prelude.{◌-◌, List}
 use Rattle.elf.specs.declared.file.ElfFile.{ElfFile}
-use Rattle.elf.specs.Files.{File}
+use Rattle.elf.specs.declared.section.Section.{Section}
+use Rattle.elf.specs.declared.sections.Sections.{Sections}
+use Rattle.elf.specs.declared.symbol.SymbolTable.{SymbolTable}
+use Rattle.elf.specs.declared.relocation.RelocationEntry.{RelocationEntry}
+use Rattle.elf.specs.declared.relocation.Relocations.{Relocations}
+use Rattle.elf.specs.Files.{File, sections_from}
+use Rattle.elf.specs.Symbols.{Table}
+use Rattle.elf.specs.Relocations.{Entries, entries_from}
 use Rattle.elf.specs.Links.{words_is}
 
--- the kind of file that a number of the header tells
-abbrev pub kind_for : ℕ → FileKind
-kind_for k = cond (k == 1) Relocatable (cond (k == 2) Executable (cond (k == 3) Shared (Other k)))
-
 abbrev pub file_is : ElfFile → File
-file_is f = record { words = words_is f.words; kind = f.kind; machine = f.machine; table = f.table; count = f.count; names = f.names }
+file_is f =
+    record {
+      words = words_is f.words;
+      kind = f.kind;
+      machine = f.machine;
+      table = f.table;
+      count = f.count;
+      names = f.names;
+    }
+
+abbrev pub sections_left : Sections → List Section
+sections_left s = sections_from (file_is s.file) s.indexes.start (s.indexes.end - s.indexes.start)
+
+abbrev pub table_is : SymbolTable → Table
+table_is t = record { entries = words_is t.entries; sections = words_is t.sections }
+
+abbrev pub relocations_is : Relocations → Entries
+relocations_is r = record { words = words_is r.words; addends = r.addends; mips64 = r.mips64 }
+
+abbrev pub entries_left : Relocations → List RelocationEntry
+entries_left r = entries_from (relocations_is r) r.indexes.start (r.indexes.end - r.indexes.start)

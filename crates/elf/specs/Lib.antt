@@ -1,12 +1,11 @@
+pub mod Results
+pub mod Kinds
 pub mod Words
 pub mod Texts
 pub mod Sections
 pub mod Files
+pub mod Names
+pub mod Symbols
+pub mod Relocations
 pub mod Links
 pub mod FileLinks
-pub mod Names
-pub mod SectionLinks
-pub mod Symbols
-pub mod SymbolLinks
-pub mod Relocations
-pub mod RelocationLinks

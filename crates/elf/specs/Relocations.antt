@@ -1,64 +1,94 @@
 -- Relocation sections, and the entries in them.
-use Rattle.std.specs.Prelude.{ℕ, zero, suc, ◌+◌, ◌-◌, ◌*◌, ◌/◌, ◌%◌, ◌^◌, Bool, true, cond, ◌&&◌, ◌||◌, List, [], ◌∷◌, length, Ok, Result, Option, Some, None, ◌==◌, nat_lt}
+use Rattle.std.specs.Prelude.{ℕ, ◌+◌, ◌-◌, ◌*◌, ◌/◌, ◌%◌, ◌^◌, Bool, true, false, ◌&&◌, List, length, map, Ok, Result, Option, Some, None, ok_or, ◌==◌, nat_lt, if◌then◌else◌}
+use Rattle.std.specs.List.{range_with_len}
 use Rattle.elf.specs.declared.error.ElfError.{ElfError}
 use Rattle.elf.specs.declared.error.ElfError.TheVariants.{NoRelocations, RelocationEntrySize, RelocationCutOff}
+use Rattle.elf.specs.declared.machine.Machine.{Machine}
+use Rattle.elf.specs.declared.machine.Machine.TheVariants.{Mips}
 use Rattle.elf.specs.declared.section.Section.{Section}
+use Rattle.elf.specs.declared.section.SectionKind.{SectionKind}
+use Rattle.elf.specs.declared.section.SectionKind.TheVariants.{Rela, Rel}
 use Rattle.elf.specs.declared.relocation.RelocationEntry.{RelocationEntry}
-use Rattle.elf.specs.Words.{Words, number, word_at}
-use Rattle.elf.specs.Files.{File, and_then, only_if, data_of, words_in}
+use Rattle.elf.specs.Results.{only_if, result_then}
+use Rattle.elf.specs.Words.{Words, number_at, word_at, words_by}
+use Rattle.elf.specs.Kinds.{machine_of}
+use Rattle.elf.specs.Files.{File, data_of, words_in}
 
--- the bytes of a relocation section, whether its entries have addends, and whether they are those of 64-bit MIPS
+-- the bytes of a relocation section, whether its entries have addends, and whether they are laid
+-- out as those of 64-bit MIPS
 pub record Entries : Type 0 where
   pub words : Words
   pub addends : Bool
   pub mips64 : Bool
 
 -- an entry has an offset, what is done with which symbol, and maybe an addend, a word each
-abbrev pub entry_size : ℕ → Bool → ℕ
-entry_size word addends = cond addends 3 2 * word
+abbrev pub relocation_size : ℕ → Bool → ℕ
+relocation_size word addends = (if addends then 3 else 2) * word
 
--- the number at a place whose highest byte comes first in either byte order
-abbrev pub big_number : Words → ℕ → ℕ → ℕ
-big_number w = number (record { bytes = w.bytes; big = true; word = w.word })
+-- a number's part above the low bits, and the low bits
+abbrev pub parts_at_bit : ℕ → ℕ → ℕ × ℕ
+parts_at_bit bit n = (n / 2 ^ bit, n % 2 ^ bit)
 
--- The second word of an entry has the index of the symbol above the kind, which takes 8 bits of 32, and 32 of 64.
--- In 64-bit MIPS the symbol has the first 4 bytes, and each of the next 4 says a part of the kind, the last one first.
-abbrev pub symbol_at : Entries → ℕ → ℕ
-symbol_at r at =
-    let info = at + r.words.word in
-    cond (r.words.word == 4) (number r.words info 4 / 2 ^ 8)
-    (cond r.mips64 (number r.words info 4) (number r.words info 8 / 2 ^ 32))
-
-abbrev pub kind_at : Entries → ℕ → ℕ
-kind_at r at =
-    let info = at + r.words.word in
-    cond (r.words.word == 4) (number r.words info 4 % 2 ^ 8)
-    (cond r.mips64 (big_number r.words (info + 4) 4) (number r.words info 8 % 2 ^ 32))
+-- The second word of an entry, at a place, has the index of the symbol above the kind, which takes
+-- 8 bits of 32, and 32 of 64. In 64-bit MIPS the symbol has the first 4 bytes, and each of the next
+-- 4 says a part of the kind, the last one first: their highest byte comes first in either order.
+abbrev pub symbol_and_kind : Entries → ℕ → ℕ × ℕ
+symbol_and_kind r at =
+    let w = r.words in
+    if w.word == 4 then parts_at_bit 8 (number_at w at 4)
+    else (if r.mips64 then (number_at w at 4, number_at (words_by w.bytes true w.word) (at + 4) 4)
+    else parts_at_bit 32 (number_at w at 8))
 
 -- a number of 32 bits in two's complement as one of 64 bits
-abbrev pub extended : ℕ → ℕ
-extended n = cond (nat_lt n (2 ^ 31)) n (n + (2 ^ 64 - 2 ^ 32))
+abbrev pub sign_extension : ℕ → ℕ
+sign_extension n = if nat_lt n (2 ^ 31) then n else n + (2 ^ 64 - 2 ^ 32)
 
+-- the third word of an entry, at a place
 abbrev pub addend_at : Entries → ℕ → Option ℕ
 addend_at r at =
-    let place = at + 2 * r.words.word in
-    cond r.addends (Some (cond (r.words.word == 4) (extended (number r.words place 4)) (number r.words place 8))) None
+    let number = number_at r.words at r.words.word in
+    if r.addends then Some (if r.words.word == 4 then sign_extension number else number) else None
 
--- the entry at a place
-abbrev pub entry_at : Entries → ℕ → RelocationEntry
-entry_at r at = record { offset = word_at r.words at; symbol = symbol_at r at; kind = kind_at r at; addend = addend_at r at }
+-- the entry of an index
+abbrev pub entry_in : Entries → ℕ → RelocationEntry
+entry_in r i =
+    let at = i * relocation_size r.words.word r.addends in
+    let info = symbol_and_kind r (at + r.words.word) in
+    record {
+      offset = word_at r.words at;
+      symbol = info.0;
+      kind = info.1;
+      addend = addend_at r (at + 2 * r.words.word);
+    }
 
--- as many entries as are told, from an index on
+-- n entries from an index on
 abbrev pub entries_from : Entries → ℕ → ℕ → List RelocationEntry
-entries_from r i zero = []
-entries_from r i (suc n) = entry_at r (i * entry_size r.words.word r.addends) ∷ entries_from r (i + 1) n
+entries_from r i n = map (entry_in r) (range_with_len i n)
 
--- the entries of a relocation section: kind 4 has addends, and kind 9 has none
+-- whether the entries of a section have addends, where it has entries
+abbrev pub addends_of : SectionKind → Option Bool
+addends_of Rela = Some true
+addends_of Rel = Some false
+addends_of _ = None
+
+abbrev pub is_mips : Option Machine → Bool
+is_mips (Some Mips) = true
+is_mips _ = false
+
+-- whether a file's entries have the shape of 64-bit MIPS
+abbrev pub is_mips64 : File → Bool
+is_mips64 f = is_mips (machine_of f.machine) && f.words.word == 8
+
+abbrev pub entries_by : File → Bool → List ℕ → Entries
+entries_by f addends bytes =
+    record { words = words_in f bytes; addends = addends; mips64 = is_mips64 f }
+
+-- the entries of a relocation section
 abbrev pub relocations_of : File → Section → Result (List RelocationEntry) ElfError
 relocations_of f s =
-    let size = entry_size f.words.word (s.kind == 4) in
-    only_if (s.kind == 4 || s.kind == 9) (NoRelocations s.index)
-    (only_if (s.entry_size == size) (RelocationEntrySize s.entry_size)
-    (and_then (data_of f s) (λ bytes.
+    result_then (ok_or (addends_of s.kind) (NoRelocations s.index)) (λ addends.
+    let size = relocation_size f.words.word addends in
+    only_if (s.entry_size == size) (RelocationEntrySize s.entry_size)
+    (result_then (data_of f s) (λ bytes.
     only_if (length bytes % size == 0) (RelocationCutOff s.index)
-    (Ok (entries_from (record { words = words_in f bytes; addends = s.kind == 4; mips64 = f.machine == 8 && f.words.word == 8 }) 0 (length bytes / size))))))
+    (Ok (entries_from (entries_by f addends bytes) 0 (length bytes / size))))))

@@ -1,10 +1,10 @@
 // Why an ELF file, or a part of one, can't be read.
 ghost use Rattle.std.specs.Prelude.{Some};
-ghost use Rattle.elf.specs.Texts.{text};
+ghost use Rattle.elf.specs.Texts.{elf_error_text};
 
 use std::fmt;
 
-/// Why an ELF file, or a part of one, can't be read; sections and symbols are told by their indexes.
+/// Why an ELF file, or a part of one, can't be read; sections and symbols go by their indexes.
 #[derive(Clone, Copy, PartialEq, Eq, Debug)]
 pub enum ElfError {
     /// The file does not begin as an ELF file does.
@@ -35,7 +35,7 @@ pub enum ElfError {
     SymbolEntrySize(u64),
     /// There is no symbol with the index.
     NoSymbol(u64),
-    /// The section of the symbol stands in a table that the file does not have, or that is too short.
+    /// The section of the symbol stands in a table that the file has not, or that is too short.
     NoSectionOfSymbol(u64),
     /// The section is no relocation section.
     NoRelocations(u64),
@@ -47,7 +47,7 @@ pub enum ElfError {
 
 /// Writes one sentence.
 impl fmt::Display for ElfError {
-    ghost output = { λ error. Some (text error) };
+    ghost output = { λ error. Some (elf_error_text error) };
 
     fn fmt<W: fmt::Write>(&self, f: &mut fmt::Formatter<W>) -> fmt::Result {
         match self {

@@ -1,22 +1,22 @@
 // An ELF file: what its header says, and where its section table is.
 ghost use Rattle.std.specs.Prelude.{◌≡◌, ◌+◌, ◌*◌, ◌<◌, ◌≤◌, length};
+ghost use Rattle.elf.specs.Kinds.{file_kind_of};
 ghost use Rattle.elf.specs.Sections.{section_size};
-ghost use Rattle.elf.specs.Files.{has_entries as entries_fit};
-ghost use Rattle.elf.specs.Links.{word_of, words_is, result_is};
+ghost use Rattle.elf.specs.Words.{has_bytes};
+ghost use Rattle.elf.specs.Links.{class_word, words_is};
 
 use crate::error::ElfError;
 use crate::header::{Header, identify, read_header};
-use crate::section::{Section, read_section, section_size_of};
+use crate::machine::Machine;
+use crate::section::{Section, SectionKind, read_section};
 use crate::words::{Class, Words};
+use numbers::read_uint;
 use readers::RunTimeEndian;
-
-// the kind of a section that takes no bytes in the file
-const NO_BYTES: u32 = 8;
 
 // stands for an index of the names that the header has no room for
 const NAMES_BEYOND: u16 = 0xffff;
 
-/// What a file is for.
+/// What a file is for (`e_type`).
 #[derive(Clone, Copy, PartialEq, Eq, Debug)]
 pub enum FileKind {
     Relocatable,
@@ -25,29 +25,44 @@ pub enum FileKind {
     Other(u16),
 }
 
+impl From<u16> for FileKind {
+    ghost from_gives = { λ number kind. kind ≡ file_kind_of number };
+
+    fn from(number: u16) -> FileKind {
+        match number {
+            1 => FileKind::Relocatable,
+            2 => FileKind::Executable,
+            3 => FileKind::Shared,
+            other => FileKind::Other(other),
+        }
+    }
+}
+
 /// An ELF file in memory.
 #[derive(Clone, Copy)]
 pub struct ElfFile<'a> {
     words: Words<'a>,
-    kind: u16,
+    kind: FileKind,
     machine: u16,
-    // the section table: where it starts, how many sections it has, and which of them has the names of sections
+    // the section table: its place, how many sections it has, and which of them has the names
     table: usize,
     pub(crate) count: usize,
     names: u32,
-    ghost within: { table + count * section_size (word_of words.class) ≤ length words.bytes.now },
+    ghost within: { table + count * section_size (class_word words.class)
+        ≤ length words.bytes.now },
 }
 
 impl<'a> ElfFile<'a> {
     ghost use Rattle.readers.specs.Links.{is_big};
-    ghost use Rattle.elf.specs.Files.{parsed, tabled, section_in, section_or, data_of, names_in, words_in};
-    ghost use Rattle.elf.specs.Words.{number_or};
-    ghost use Rattle.elf.specs.Links.{header_is};
-    ghost use Rattle.elf.specs.FileLinks.{file_is, kind_for};
+    ghost use Rattle.elf.specs.Results.{result_is};
+    ghost use Rattle.elf.specs.Kinds.{machine_of};
+    ghost use Rattle.elf.specs.Words.{uint_or};
+    ghost use Rattle.elf.specs.Files.{file_of, file_with_table, section_in, section_or, data_of, names_in, words_in};
+    ghost use Rattle.elf.specs.FileLinks.{file_is};
 
-    /// Reads the header of a file, and finds its section table.
+    /// Reads the header of a file, and finds its section table, which has to lie within the bytes.
     pub fn parse(bytes: &'a [u8]) -> Result<ElfFile<'a>, ElfError>
-        ensures { result_is file_is result ≡ parsed bytes.now }
+        ensures { result_is file_is result ≡ file_of bytes.now }
     {
         let words = identify(bytes)?;
         let header = read_header(&words)?;
@@ -66,9 +81,9 @@ impl<'a> ElfFile<'a> {
 
     // the file with the section table that its header tells
     fn with_table(words: Words<'a>, header: Header) -> Result<ElfFile<'a>, ElfError>
-        ensures { result_is file_is result ≡ tabled (words_is words.entry) (header_is header) }
+        ensures { result_is file_is result ≡ file_with_table (words_is words.entry) header }
     {
-        let size = section_size_of(words.class);
+        let size = words.class.section_size();
         if header.entry_size as usize != size {
             return Err(ElfError::SectionEntrySize(header.entry_size));
         }
@@ -100,36 +115,42 @@ impl<'a> ElfFile<'a> {
         })
     }
 
+    /// Whether its words have 32 or 64 bits (`EI_CLASS`).
     pub fn class(&self) -> Class
-        ensures { word_of result ≡ (file_is self.now).words.word }
+        ensures { class_word result ≡ (file_is self.now).words.word }
     {
         self.words.class
     }
 
+    /// The order of the bytes in its numbers (`EI_DATA`).
     pub fn endian(&self) -> RunTimeEndian
         ensures { is_big result ≡ (file_is self.now).words.big }
     {
         self.words.endian
     }
 
+    /// What the file is for.
     pub fn kind(&self) -> FileKind
-        ensures { result ≡ kind_for (file_is self.now).kind }
+        ensures { result ≡ (file_is self.now).kind }
     {
-        match self.kind {
-            1 => FileKind::Relocatable,
-            2 => FileKind::Executable,
-            3 => FileKind::Shared,
-            other => FileKind::Other(other),
-        }
+        self.kind
     }
 
-    /// The number of the machine that the file is for.
-    pub fn machine(&self) -> u16
+    /// The machine that the file is for, if its relocations are known.
+    pub fn machine(&self) -> Option<Machine>
+        ensures { result ≡ machine_of (file_is self.now).machine }
+    {
+        Machine::of(self.machine)
+    }
+
+    /// The number of the machine that the file is for (`e_machine`).
+    pub fn machine_number(&self) -> u16
         ensures { result ≡ (file_is self.now).machine }
     {
         self.machine
     }
 
+    /// How many sections the section table has, section 0 with them.
     pub fn section_count(&self) -> u64
         ensures { result ≡ (file_is self.now).count }
     {
@@ -142,10 +163,11 @@ impl<'a> ElfFile<'a> {
         requires { index < self.now.count }
         ensures { result ≡ section_in (file_is self.now) index }
     {
-        let at = self.table + index * section_size_of(self.words.class);
+        let at = self.table + index * self.words.class.section_size();
         read_section(&self.words, index, at)
     }
 
+    /// The section of an index; NoSection where there is none.
     pub fn section(&self, index: u64) -> Result<Section, ElfError>
         ensures { result ≡ section_or (file_is self.now) index }
     {
@@ -156,44 +178,29 @@ impl<'a> ElfFile<'a> {
         }
     }
 
-    /// The bytes of a section.
+    /// The bytes of a section; NoBytes or SectionCutOff where the file has not all of them.
     pub fn data(&self, section: &Section) -> Result<&'a [u8], ElfError>
         ensures { result_is (λ x. x.now) result ≡ data_of (file_is self.now) section.now }
     {
-        if section.kind == NO_BYTES {
+        if section.kind == SectionKind::NoBits {
             return Err(ElfError::NoBytes(section.index));
         }
-        let bytes = self.words.bytes;
-        let end = section
-            .offset
-            .checked_add(section.size)
-            .filter(|end| *end <= bytes.len() as u64);
-        match end {
-            Some(end) => Ok(&bytes[section.offset as usize..end as usize]),
-            None => Err(ElfError::SectionCutOff(section.index)),
+        if !self.words.has_bytes(section.offset, section.size) {
+            return Err(ElfError::SectionCutOff(section.index));
         }
+        let start = section.offset as usize;
+        Ok(&self.words.bytes[start..start + section.size as usize])
     }
 
-    /// The number of 4 bytes at a place of bytes, in the file's byte order; None if they end before it does.
-    pub fn u32_in(&self, bytes: &'a [u8], at: u64) -> Option<u32>
-        ensures { result ≡ number_or (words_in (file_is self.now) bytes.now) at 4 }
+    /// The number of at most 8 bytes at a place of bytes, in the file's order, if they hold it.
+    pub fn uint_in(&self, bytes: &'a [u8], at: u64, size: u8) -> Option<u64>
+        ensures { result ≡ uint_or (words_in (file_is self.now) bytes.now) at size }
     {
-        let end = at.checked_add(4)?;
-        if end > bytes.len() as u64 {
+        let words = self.words_in(bytes);
+        if !words.has_bytes(at, size as u64) {
             return None;
         }
-        Some(self.words_in(bytes).u32_at(at as usize))
-    }
-
-    /// The number of 8 bytes at a place of bytes, likewise.
-    pub fn u64_in(&self, bytes: &'a [u8], at: u64) -> Option<u64>
-        ensures { result ≡ number_or (words_in (file_is self.now) bytes.now) at 8 }
-    {
-        let end = at.checked_add(8)?;
-        if end > bytes.len() as u64 {
-            return None;
-        }
-        Some(self.words_in(bytes).u64_at(at as usize))
+        read_uint(&mut words.reader_at(at as usize), size as usize).ok()
     }
 
     // the same file's numbers in other bytes
@@ -215,13 +222,13 @@ impl<'a> ElfFile<'a> {
     }
 }
 
-// whether as many entries of sections from a place on lie within the bytes
+// whether as many entries of sections lie behind a place
 fn has_entries(words: &Words, at: u64, count: u64) -> bool
-    ensures { result ≡ entries_fit (words_is words.now) at count }
+    ensures { result
+        ≡ has_bytes (words_is words.now) at (count * section_size (class_word words.now.class)) }
 {
-    let size = section_size_of(words.class) as u64;
-    let end = count
-        .checked_mul(size)
-        .and_then(|size| at.checked_add(size));
-    end.is_some_and(|end| end <= words.bytes.len() as u64)
+    match count.checked_mul(words.class.section_size() as u64) {
+        Some(size) => words.has_bytes(at, size),
+        None => false,
+    }
 }

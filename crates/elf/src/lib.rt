@@ -4,6 +4,7 @@
 mod error;
 mod file;
 mod header;
+mod machine;
 mod relocation;
 mod section;
 mod sections;
@@ -12,8 +13,9 @@ mod words;
 
 pub use error::ElfError;
 pub use file::{ElfFile, FileKind};
+pub use machine::Machine;
 pub use relocation::{RelocationEntry, Relocations};
-pub use section::Section;
+pub use section::{Section, SectionKind};
 pub use sections::Sections;
 pub use symbol::{Symbol, SymbolPlace, SymbolTable};
 pub use words::Class;

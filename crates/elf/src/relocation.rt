@@ -1,26 +1,21 @@
 // Relocation sections, and the entries in them.
-ghost use Rattle.std.specs.Prelude.{◌≡◌, ◌+◌, ◌*◌, ◌≤◌, length};
+ghost use Rattle.std.specs.Prelude.{◌≡◌, ◌+◌, ◌*◌, ◌<◌, ◌≤◌, length, IsTrue};
 ghost use Rattle.std.specs.Iterator.{YieldsFirst, item_count};
-ghost use Rattle.elf.specs.Relocations.{entry_size, extended};
-ghost use Rattle.elf.specs.Links.{word_of};
+ghost use Rattle.elf.specs.Relocations.{relocation_size, sign_extension};
+ghost use Rattle.elf.specs.Links.{class_word};
 
 use crate::error::ElfError;
 use crate::file::ElfFile;
-use crate::section::Section;
+use crate::machine::Machine;
+use crate::section::{Section, SectionKind};
 use crate::words::{Class, Words};
 use readers::RunTimeEndian;
-
-// kinds of sections: entries with addends, and entries without
-const WITH_ADDENDS: u32 = 4;
-
-const WITHOUT_ADDENDS: u32 = 9;
-
-// the machine whose 64-bit files have an entry of another shape
-const MIPS: u16 = 8;
+use std::ops::Range;
 
 /// What a relocation section says of one place of the section that it is for.
 #[derive(Clone, Copy, PartialEq, Eq, Debug)]
 pub struct RelocationEntry {
+    /// The place in the section that it is for.
     pub offset: u64,
     /// The index of the symbol.
     pub symbol: u32,
@@ -34,31 +29,30 @@ pub struct RelocationEntry {
 #[derive(Drop)]
 pub struct Relocations<'a> {
     words: Words<'a>,
-    // how the entries are laid out: whether they have addends, and whether they are those of 64-bit MIPS
+    // whether the entries have addends, and whether they are laid out as those of 64-bit MIPS
     addends: bool,
     mips64: bool,
-    count: usize,
-    // the index of the next one
-    next: usize,
-    ghost on: { next ≤ count },
-    ghost within: { count * entry_size (word_of words.class) addends ≤ length words.bytes.now },
+    // those of the entries left
+    indexes: Range<usize>,
+    ghost within: { indexes.end * relocation_size (class_word words.class) addends
+        ≤ length words.bytes.now },
 }
 
 impl<'a> ElfFile<'a> {
+    ghost use Rattle.elf.specs.Results.{result_is};
     ghost use Rattle.elf.specs.Relocations.{relocations_of};
-    ghost use Rattle.elf.specs.RelocationLinks.{left};
-    ghost use Rattle.elf.specs.Links.{result_is};
-    ghost use Rattle.elf.specs.FileLinks.{file_is};
+    ghost use Rattle.elf.specs.FileLinks.{file_is, entries_left};
 
     /// The entries of a section, which has to be a relocation section.
     pub fn relocations(&self, section: &Section) -> Result<Relocations<'a>, ElfError>
-        ensures { result_is left result ≡ relocations_of (file_is self.now) section.now }
+        ensures { result_is entries_left result ≡ relocations_of (file_is self.now) section.now }
     {
-        let addends = section.kind == WITH_ADDENDS;
-        if !addends && section.kind != WITHOUT_ADDENDS {
-            return Err(ElfError::NoRelocations(section.index));
-        }
-        let size = entry_size(self.class(), addends);
+        let addends = match section.kind {
+            SectionKind::Rela => true,
+            SectionKind::Rel => false,
+            _ => return Err(ElfError::NoRelocations(section.index)),
+        };
+        let size = self.class().relocation_size(addends);
         if section.entry_size != size as u64 {
             return Err(ElfError::RelocationEntrySize(section.entry_size));
         }
@@ -69,109 +63,103 @@ impl<'a> ElfFile<'a> {
         Ok(Relocations {
             words: self.words_in(bytes),
             addends,
-            mips64: self.machine() == MIPS && self.class() == Class::Elf64,
-            count: bytes.len() / size,
-            next: 0,
+            mips64: matches!(
+                (self.machine(), self.class()),
+                (Some(Machine::Mips), Class::Elf64)
+            ),
+            indexes: 0..bytes.len() / size,
         })
     }
 }
 
-// how many bytes an entry takes
-fn entry_size(class: Class, addends: bool) -> usize
-    ensures { result ≡ entry_size (word_of class) addends }
-{
-    let words = if addends { 3 } else { 2 };
-    words * class.word_size()
+impl Class {
+    // how many bytes an entry takes
+    fn relocation_size(self, addends: bool) -> usize
+        ensures { result ≡ relocation_size (class_word self) addends }
+    {
+        let words = if addends { 3 } else { 2 };
+        words * self.word_size()
+    }
 }
 
 impl Relocations<'_> {
-    ghost use Rattle.elf.specs.Relocations.{entry_at, addend_at, symbol_at, kind_at};
-    ghost use Rattle.elf.specs.RelocationLinks.{relocations_is};
+    ghost use Rattle.elf.specs.Relocations.{entry_in, symbol_and_kind, addend_at};
+    ghost use Rattle.elf.specs.FileLinks.{relocations_is};
 
-    // the entry at a place
-    fn entry(&self, at: usize) -> RelocationEntry
-        requires { at + entry_size (word_of self.now.words.class) self.now.addends ≤ length self.now.words.bytes.now }
-        ensures { result ≡ entry_at (relocations_is self.now) at }
+    // the entry of an index below the number of entries
+    #[tactic(auto, using(crate::proofs::Entries::entry_within))]
+    fn entry(&self, index: usize) -> RelocationEntry
+        requires { index < self.now.indexes.end }
+        ensures { result ≡ entry_in (relocations_is self.now) index }
     {
+        let word = self.words.class.word_size();
+        let at = index * self.words.class.relocation_size(self.addends);
+        let (symbol, kind) = self.symbol_and_kind(at + word);
         RelocationEntry {
             offset: self.words.word_at(at),
-            symbol: self.symbol(at),
-            kind: self.kind(at),
-            addend: self.addend(at),
+            symbol,
+            kind,
+            addend: self.addend(at + 2 * word),
         }
     }
 
-    fn symbol(&self, at: usize) -> u32
-        requires { at + 2 * word_of self.now.words.class ≤ length self.now.words.bytes.now }
-        ensures { result ≡ symbol_at (relocations_is self.now) at }
+    // from the second word of an entry, by its place
+    fn symbol_and_kind(&self, at: usize) -> (u32, u32)
+        requires { at + class_word self.now.words.class ≤ length self.now.words.bytes.now }
+        ensures { result ≡ symbol_and_kind (relocations_is self.now) at }
     {
-        let info = at + self.words.class.word_size();
         match self.words.class {
-            Class::Elf32 => self.words.u32_at(info) >> 8,
-            Class::Elf64 if self.mips64 => self.words.u32_at(info),
-            Class::Elf64 => (self.words.u64_at(info) >> 32) as u32,
-        }
-    }
-
-    fn kind(&self, at: usize) -> u32
-        requires { at + 2 * word_of self.now.words.class ≤ length self.now.words.bytes.now }
-        ensures { result ≡ kind_at (relocations_is self.now) at }
-    {
-        let info = at + self.words.class.word_size();
-        match self.words.class {
-            Class::Elf32 => self.words.u32_at(info) % (1 << 8),
+            Class::Elf32 => {
+                let info = self.words.u32_at(at);
+                (info >> 8, info % (1 << 8))
+            }
             Class::Elf64 if self.mips64 => {
                 let mut words = self.words;
                 words.endian = RunTimeEndian::Big;
-                words.u32_at(info + 4)
+                (self.words.u32_at(at), words.u32_at(at + 4))
             }
-            Class::Elf64 => (self.words.u64_at(info) % (1 << 32)) as u32,
+            Class::Elf64 => {
+                let info = self.words.u64_at(at);
+                ((info >> 32) as u32, (info % (1 << 32)) as u32)
+            }
         }
     }
 
+    // from the third word of an entry, by its place
     fn addend(&self, at: usize) -> Option<u64>
-        requires { at + entry_size (word_of self.now.words.class) self.now.addends ≤ length self.now.words.bytes.now }
+        requires { IsTrue self.now.addends
+            → at + class_word self.now.words.class ≤ length self.now.words.bytes.now }
         ensures { result ≡ addend_at (relocations_is self.now) at }
     {
         if !self.addends {
             return None;
         }
-        let place = at + 2 * self.words.class.word_size();
         Some(match self.words.class {
-            Class::Elf32 => extended(self.words.u32_at(place)),
-            Class::Elf64 => self.words.u64_at(place),
+            Class::Elf32 => sign_extension(self.words.u32_at(at)),
+            Class::Elf64 => self.words.u64_at(at),
         })
     }
 }
 
 // a number in two's complement, in 64 bits
-fn extended(number: u32) -> u64
-    ensures { result ≡ extended number }
+fn sign_extension(number: u32) -> u64
+    ensures { result ≡ sign_extension number }
 {
-    let number = number as u64;
-    if number < 1 << 31 {
-        number
-    } else {
-        number + 0xffff_ffff_0000_0000
-    }
+    i64::from(number.cast_signed()).cast_unsigned()
 }
 
 impl Iterator for Relocations<'_> {
-    ghost use Rattle.elf.specs.RelocationLinks.{left};
+    ghost use Rattle.elf.specs.FileLinks.{entries_left};
 
     type Item = RelocationEntry;
 
-    ghost next_gives = { YieldsFirst left };
+    ghost next_gives = { YieldsFirst entries_left };
 
-    ghost remaining = { item_count left };
+    ghost remaining = { item_count entries_left };
 
-    #[tactic(auto, using(crate::proofs::Entries::length_entries_from))]
+    #[tactic(auto, using(crate::proofs::Entries::first_left))]
     fn next(&mut self) -> Option<RelocationEntry> {
-        if self.next >= self.count {
-            return None;
-        }
-        let entry = self.entry(self.next * entry_size(self.words.class, self.addends));
-        self.next += 1;
-        Some(entry)
+        let index = self.indexes.next()?;
+        Some(self.entry(index))
     }
 }

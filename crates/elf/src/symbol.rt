@@ -1,17 +1,11 @@
 // Symbol tables, and the symbols in them.
 ghost use Rattle.std.specs.Prelude.{◌≡◌, ◌+◌, ◌*◌, ◌≤◌, length, find};
+ghost use Rattle.elf.specs.Symbols.{place_in_section};
 
 use crate::error::ElfError;
 use crate::file::ElfFile;
-use crate::section::Section;
+use crate::section::{Section, SectionKind};
 use crate::words::{Class, Words};
-
-// kinds of sections: two of symbols, and the one that has their sections where 16 bits are too few
-const SYMBOLS: u32 = 2;
-
-const DYNAMIC_SYMBOLS: u32 = 11;
-
-const SECTIONS_OF_SYMBOLS: u32 = 18;
 
 /// Where a symbol is defined.
 #[derive(Clone, Copy, PartialEq, Eq, Debug)]
@@ -28,10 +22,13 @@ pub enum SymbolPlace {
     Reserved(u16),
 }
 
+/// What a symbol table says of a symbol.
 #[derive(Clone, Copy, PartialEq, Eq, Debug)]
 pub struct Symbol {
+    /// A place in its section, or a number that stays as it is.
     pub value: u64,
     pub place: SymbolPlace,
+    /// The low four bits of `st_info`.
     pub kind: u8,
 }
 
@@ -45,31 +42,30 @@ pub struct SymbolTable<'a> {
 
 impl Class {
     ghost use Rattle.elf.specs.Symbols.{symbol_size};
-    ghost use Rattle.elf.specs.Links.{word_of};
+    ghost use Rattle.elf.specs.Links.{class_word};
 
     // how many bytes an entry of a symbol table takes
     fn symbol_size(self) -> usize
-        ensures { result ≡ symbol_size (word_of self) }
+        ensures { result ≡ symbol_size (class_word self) }
     {
-        match self {
-            Class::Elf32 => 16,
-            Class::Elf64 => 24,
-        }
+        8 + 2 * self.word_size()
     }
 }
 
 impl<'a> ElfFile<'a> {
-    ghost use Rattle.elf.specs.Links.{result_is};
-    ghost use Rattle.elf.specs.FileLinks.{file_is};
+    ghost use Rattle.elf.specs.Results.{result_is};
+    ghost use Rattle.elf.specs.FileLinks.{file_is, table_is};
     ghost use Rattle.elf.specs.Files.{all_sections};
-    ghost use Rattle.elf.specs.Symbols.{symbols_of, sections_of_symbols, tells_sections};
-    ghost use Rattle.elf.specs.SymbolLinks.{table_is};
+    ghost use Rattle.elf.specs.Symbols.{symbols_of, sections_of_symbols, is_for_table};
 
     /// The symbols of a section, which has to be a symbol table.
     pub fn symbols(&self, section: &Section) -> Result<SymbolTable<'a>, ElfError>
         ensures { result_is table_is result ≡ symbols_of (file_is self.now) section.now }
     {
-        if section.kind != SYMBOLS && section.kind != DYNAMIC_SYMBOLS {
+        if !matches!(
+            section.kind,
+            SectionKind::SymbolTable | SectionKind::DynamicSymbols
+        ) {
             return Err(ElfError::NoSymbolTable(section.index));
         }
         if section.entry_size != self.class().symbol_size() as u64 {
@@ -87,42 +83,44 @@ impl<'a> ElfFile<'a> {
     fn sections_of_symbols(&self, table: &Section) -> Result<&'a [u8], ElfError>
         ensures { result_is (λ x. x.now) result ≡ sections_of_symbols (file_is self.now) table.now }
     {
-        match self.section_of_sections(table.index) {
+        match self.section_for_table(table.index) {
             Some(section) => self.data(&section),
             None => Ok(&[]),
         }
     }
 
     // the section that has the sections of a table's symbols
-    fn section_of_sections(&self, table: u64) -> Option<Section>
-        ensures { result ≡ find (tells_sections table) (all_sections (file_is self.now)) }
+    fn section_for_table(&self, table: u64) -> Option<Section>
+        ensures { result ≡ find (is_for_table table) (all_sections (file_is self.now)) }
     {
         self.sections().find(|section| {
-            section.kind == SECTIONS_OF_SYMBOLS && section.link as u64 == table
+            section.kind == SectionKind::SymbolTableSections && section.link as u64 == table
         })
     }
 }
 
 impl SymbolTable<'_> {
     ghost use Rattle.elf.specs.Symbols.{symbol_or, place_or};
-    ghost use Rattle.elf.specs.SymbolLinks.{table_is};
+    ghost use Rattle.elf.specs.FileLinks.{table_is};
 
+    /// The symbol of an index; NoSymbol, or NoSectionOfSymbol where its place is not told.
     pub fn symbol(&self, index: u32) -> Result<Symbol, ElfError>
         ensures { result ≡ symbol_or (table_is self.now) index }
     {
-        let size = self.entries.class.symbol_size();
+        let class = self.entries.class;
+        let size = class.symbol_size();
         let at = index as usize * size;
-        if at + size > self.entries.bytes.len() {
+        if !self.entries.has_bytes(at as u64, size as u64) {
             return Err(ElfError::NoSymbol(index as u64));
         }
         // the value of 64 bits stands behind the fields that stand behind the value of 32 bits
-        let info = match self.entries.class {
+        let info = match class {
             Class::Elf32 => at + 12,
             Class::Elf64 => at + 4,
         };
         let place = self.place(index, self.entries.u16_at(info + 2))?;
         Ok(Symbol {
-            value: self.entries.word_at(at + self.entries.class.word_size()),
+            value: self.entries.word_at(at + class.word_size()),
             place,
             kind: self.entries.bytes[info] % 16,
         })
@@ -133,21 +131,27 @@ impl SymbolTable<'_> {
         ensures { result ≡ place_or (table_is self.now) index number }
     {
         match number {
-            0 => Ok(SymbolPlace::Undefined),
             0xfff1 => Ok(SymbolPlace::Absolute),
             0xfff2 => Ok(SymbolPlace::Common),
             0xffff => {
                 let at = index as usize * 4;
-                if at + 4 > self.sections.bytes.len() {
+                if !self.sections.has_bytes(at as u64, 4) {
                     return Err(ElfError::NoSectionOfSymbol(index as u64));
                 }
-                match self.sections.u32_at(at) {
-                    0 => Ok(SymbolPlace::Undefined),
-                    section => Ok(SymbolPlace::Section(section)),
-                }
+                Ok(place_in_section(self.sections.u32_at(at)))
             }
             0xff00..=0xfffe => Ok(SymbolPlace::Reserved(number)),
-            _ => Ok(SymbolPlace::Section(number as u32)),
+            _ => Ok(place_in_section(number as u32)),
         }
+    }
+}
+
+// the place by the index of a section, of which 0 is none
+fn place_in_section(index: u32) -> SymbolPlace
+    ensures { result ≡ place_in_section index }
+{
+    match index {
+        0 => SymbolPlace::Undefined,
+        section => SymbolPlace::Section(section),
     }
 }

@@ -1,6 +1,6 @@
 // Numbers in the bytes of a file: of fixed widths, and words, whose width the file's class tells.
 ghost use Rattle.std.specs.Prelude.{◌≡◌, ◌+◌, ◌^◌, ◌<◌, ◌≤◌, length, drop};
-ghost use Rattle.readers.specs.Reading.{plain};
+ghost use Rattle.readers.specs.Reading.{plain_reader};
 ghost use Rattle.readers.specs.Links.{is_big};
 
 use numbers::{read_u16, read_u32, read_u64};
@@ -15,11 +15,11 @@ pub enum Class {
 }
 
 impl Class {
-    ghost use Rattle.elf.specs.Links.{word_of};
+    ghost use Rattle.elf.specs.Links.{class_word};
 
     /// How many bytes an address or an offset takes.
     pub fn word_size(self) -> usize
-        ensures { result ≡ word_of self }
+        ensures { result ≡ class_word self }
     {
         match self {
             Class::Elf32 => 4,
@@ -40,11 +40,12 @@ pub struct Words<'a> {
 
 impl<'a> Words<'a> {
     ghost use Rattle.section_reader.specs.Means.{section_means};
-    ghost use Rattle.elf.specs.Words.{number, word_at, words_by};
-    ghost use Rattle.elf.specs.Links.{word_of, words_is};
+    ghost use Rattle.elf.specs.Words.{has_bytes, number_at, word_at, words_by};
+    ghost use Rattle.elf.specs.Links.{class_word, words_is};
 
+    /// Bytes with the numbers of a file.
     pub fn new(bytes: &'a [u8], endian: RunTimeEndian, class: Class) -> Words<'a>
-        ensures { words_is result ≡ words_by bytes.now (is_big endian) (word_of class) }
+        ensures { words_is result ≡ words_by bytes.now (is_big endian) (class_word class) }
     {
         // its length is known to be a number of the code once it is asked
         let _len = bytes.len();
@@ -55,37 +56,46 @@ impl<'a> Words<'a> {
         }
     }
 
-    // a reader of the bytes from a place on
-    fn from(&self, at: usize) -> EndianSlice<'a>
-        requires { at ≤ length self.now.bytes.now }
-        ensures { section_means result ≡ plain 0 (drop at self.now.bytes.now) (is_big self.now.endian) }
+    /// Whether as many bytes lie behind a place.
+    pub fn has_bytes(&self, at: u64, size: u64) -> bool
+        ensures { result ≡ has_bytes (words_is self.now) at size }
     {
-        EndianSlice::new(&self.bytes[at..], 0, self.endian).unwrap()
+        at.checked_add(size)
+            .is_some_and(|end| end <= self.bytes.len() as u64)
     }
 
+    /// A reader of the bytes from a place on.
+    pub fn reader_at(&self, at: usize) -> EndianSlice<'a>
+        ensures { section_means result
+            ≡ plain_reader 0 (drop at self.now.bytes.now) (is_big self.now.endian) }
+    {
+        EndianSlice::new(rest_from(self.bytes, at), 0, self.endian).unwrap()
+    }
+
+    /// The number of 2 bytes at a place, and so below of 4, of 8, and of a word.
     pub fn u16_at(&self, at: usize) -> u16
         requires { at + 2 ≤ length self.now.bytes.now }
-        ensures { result ≡ number (words_is self.now) at 2 }
+        ensures { result ≡ number_at (words_is self.now) at 2 }
     {
-        read_u16(&mut self.from(at)).unwrap()
+        read_u16(&mut self.reader_at(at)).unwrap()
     }
 
     pub fn u32_at(&self, at: usize) -> u32
         requires { at + 4 ≤ length self.now.bytes.now }
-        ensures { result ≡ number (words_is self.now) at 4 }
+        ensures { result ≡ number_at (words_is self.now) at 4 }
     {
-        read_u32(&mut self.from(at)).unwrap()
+        read_u32(&mut self.reader_at(at)).unwrap()
     }
 
     pub fn u64_at(&self, at: usize) -> u64
         requires { at + 8 ≤ length self.now.bytes.now }
-        ensures { result ≡ number (words_is self.now) at 8 }
+        ensures { result ≡ number_at (words_is self.now) at 8 }
     {
-        read_u64(&mut self.from(at)).unwrap()
+        read_u64(&mut self.reader_at(at)).unwrap()
     }
 
     pub fn word_at(&self, at: usize) -> u64
-        requires { at + word_of self.now.class ≤ length self.now.bytes.now }
+        requires { at + class_word self.now.class ≤ length self.now.bytes.now }
         ensures { result ≡ word_at (words_is self.now) at }
     {
         match self.class {
@@ -93,4 +103,11 @@ impl<'a> Words<'a> {
             Class::Elf64 => self.u64_at(at),
         }
     }
+}
+
+/// What stands from a place on.
+pub fn rest_from(bytes: &[u8], at: usize) -> &[u8]
+    ensures { result.now ≡ drop at bytes.now }
+{
+    bytes.get(at..).unwrap_or(&[])
 }

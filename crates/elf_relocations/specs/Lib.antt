@@ -1,7 +1,5 @@
-pub mod Machines
+pub mod Actions
 pub mod Texts
-pub mod Links
 pub mod Records
-pub mod RecordLinks
 pub mod Tables
-pub mod TableLinks
+pub mod Links

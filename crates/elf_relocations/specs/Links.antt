@@ -1,19 +1,27 @@
--- Results, whose values stand for what a function makes of them.
-use Rattle.std.specs.Prelude.{Ok, Err, Result}
-use Rattle.elf.specs.declared.error.ElfError.{ElfError}
+-- How the code's values stand for what the definitions speak of; want of memory may end the work at
+-- any place.
+use Rattle.std.specs.Prelude.{◌≡◌, Bool, true, false, Ok, Err, Result}
+use Rattle.std.specs.Bool.{OnFalse}
+use Rattle.elf.specs.FileLinks.{file_is, table_is}
 use Rattle.elf_relocations.specs.declared.error.RelocationError.{RelocationError}
-use Rattle.elf_relocations.specs.declared.error.RelocationError.TheVariants.{Elf}
+use Rattle.elf_relocations.specs.declared.error.RelocationError.TheVariants.{NoMemory}
+use Rattle.elf_relocations.specs.declared.record.Source as code_source
+use Rattle.elf_relocations.specs.declared.table.Builder as code_builder
+use Rattle.elf_relocations.specs.Records.{Source}
+use Rattle.elf_relocations.specs.Tables.{Builder, builder_by}
 
-abbrev pub result_is : {A B : Type 0} → (A → B) → Result A RelocationError → Result B RelocationError
-result_is f (Ok x) = Ok (f x)
-result_is f (Err e) = Err e
+abbrev pub source_is : code_source.Source → Source
+source_is s = record { file = file_is s.file; bytes = s.bytes.now; symbols = table_is s.symbols }
 
--- one result after another, up to the first error
-abbrev pub and_then : {A B : Type 0} → Result A RelocationError → (A → Result B RelocationError) → Result B RelocationError
-and_then (Ok x) f = f x
-and_then (Err e) f = Err e
+abbrev pub builder_is : code_builder.Builder → Builder
+builder_is b = builder_by b.records.items b.waiting
 
--- the same after a part of the file is read
-abbrev pub from_elf : {A B : Type 0} → Result A ElfError → (A → Result B RelocationError) → Result B RelocationError
-from_elf (Ok x) f = f x
-from_elf (Err e) f = Err (Elf e)
+abbrev pub is_no_memory : RelocationError → Bool
+is_no_memory NoMemory = true
+is_no_memory _ = false
+
+-- a call answered what the definition says, or was refused as it says, if not for want of memory
+abbrev pub AnswersGivenMemory : {A B : Type 0}
+    → (A → B) → Result A RelocationError → Result B RelocationError → Type 0
+AnswersGivenMemory f (Ok x) r = Ok (f x) ≡ r
+AnswersGivenMemory f (Err e) r = OnFalse (is_no_memory e) (Err e ≡ r)

@@ -1,14 +1,13 @@
 // Why the relocations of a section can't be applied.
 ghost use Rattle.std.specs.Prelude.{◌≡◌, Some};
 ghost use Rattle.elf_relocations.specs.declared.error.RelocationError.TheVariants.{Elf, NoMemory};
-ghost use Rattle.elf_relocations.specs.Texts.{text};
+ghost use Rattle.elf_relocations.specs.Texts.{relocation_error_text};
 
-use crate::machine::Machine;
-use elf::ElfError;
+use elf::{ElfError, Machine};
 use std::alloc::{AllocError, AllocFailed};
 use std::fmt;
 
-/// Why the relocations of a section can't be applied; an offset is that of the place in the section.
+/// Why the relocations of a section can't be applied; an offset is that in the section.
 #[derive(Clone, Copy, PartialEq, Eq, Debug)]
 pub enum RelocationError {
     /// A part of the file can't be read.
@@ -37,13 +36,13 @@ pub enum RelocationError {
     OutsideSection(u64),
     /// Two relocations of one place.
     TwoRelocations(u64),
-    /// The section with the index has relocations in ELF's compact form (SHT_CREL), which is not read.
+    /// The section with the index has relocations in ELF's compact form (SHT_CREL).
     CompactRelocations(u64),
 }
 
 /// Writes one sentence.
 impl fmt::Display for RelocationError {
-    ghost output = { λ error. Some (text error) };
+    ghost output = { λ error. Some (relocation_error_text error) };
 
     fn fmt<W: fmt::Write>(&self, f: &mut fmt::Formatter<W>) -> fmt::Result {
         match self {

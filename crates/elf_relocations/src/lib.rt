@@ -1,12 +1,12 @@
 // From the relocation sections of an object file to the records of a relocation table.
 #![tactic(auto)]
 
+mod action;
 mod error;
-mod machine;
 mod record;
 mod table;
 
+pub use action::Width;
 pub use error::RelocationError;
-pub use machine::{Machine, Width};
 pub use record::Applied;
-pub use table::{records, relocations_for};
+pub use table::relocations_for;

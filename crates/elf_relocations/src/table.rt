@@ -1,121 +1,108 @@
 // The records of a section: what all relocation entries for it make, one after another.
-ghost use Rattle.std.specs.Prelude.{◌≡◌, map, IfOk, [], None};
-ghost use Rattle.elf_relocations.specs.Tables.{relocates, relocates_compactly, checked, table_of};
-ghost use Rattle.elf_relocations.specs.TableLinks.{Took, Answered};
+ghost use Rattle.std.specs.Prelude.{◌≡◌, filter};
 ghost use Rattle.elf.specs.FileLinks.{file_is};
+ghost use Rattle.elf_relocations.specs.Tables.{relocates, distinct_records, table_of};
+ghost use Rattle.elf_relocations.specs.Links.{AnswersGivenMemory};
 
+use crate::action::Action;
 use crate::error::RelocationError;
-use crate::machine::{Action, Width};
-use crate::record::{Applied, Source};
-use elf::{ElfFile, FileKind, RelocationEntry, Relocations, Section};
-use relocate::Relocation;
-use std::alloc::{AllocError, Global};
+use crate::record::{Applied, Source, Waiting};
+use elf::{ElfFile, FileKind, RelocationEntry, Relocations, Section, SectionKind};
+use std::alloc::Global;
 use std::collections::BTreeSet;
-
-// kinds of sections that have relocation entries
-const WITH_ADDENDS: u32 = 4;
-
-const WITHOUT_ADDENDS: u32 = 9;
-
-const COMPACT: u32 = 0x4000_0014;
-
-// an entry that adds an address, and waits for the next one to subtract another
-#[derive(Clone, Copy)]
-struct Waiting {
-    entry: RelocationEntry,
-    width: Width,
-}
 
 // the records that entries have made, and the last entry if it waits for the next
 #[derive(Drop)]
-struct Made {
+struct Builder {
     records: Vec<Applied>,
     waiting: Option<Waiting>,
 }
 
-impl Made {
-    ghost use Rattle.elf_relocations.specs.RecordLinks.{source_is};
-    ghost use Rattle.elf_relocations.specs.Tables.{made, taken, all_taken, section_taken, sections_taken};
+impl Builder {
     ghost use Rattle.elf.specs.Files.{all_sections};
-    ghost use Rattle.elf.specs.RelocationLinks.{left};
-    ghost use Rattle.elf_relocations.specs.TableLinks.{made_is};
+    ghost use Rattle.elf.specs.FileLinks.{entries_left};
+    ghost use Rattle.elf_relocations.specs.Tables.{no_records, with_entry, with_entries, with_section, with_sections};
+    ghost use Rattle.elf_relocations.specs.Links.{source_is, builder_is};
 
-    fn new(heap: Global) -> Made
-        ensures { made_is result ≡ made [] None }
+    fn new(heap: Global) -> Builder
+        ensures { builder_is result ≡ no_records }
     {
-        Made {
+        Builder {
             records: Vec::new(heap),
             waiting: None,
         }
     }
 
-    // the relocation sections of a section one after another
-    fn take_sections(
+    // the relocation sections of the section with an index one after another
+    fn add_sections(
         &mut self,
         file: &ElfFile,
         target: u64,
         bytes: &[u8],
     ) -> Result<(), RelocationError>
-        ensures { Took result (made_is self.new) (sections_taken (file_is file.now) target bytes.now (made_is self.old) (all_sections (file_is file.now))) }
+        ensures { AnswersGivenMemory (λ _. builder_is self.new) result
+            (with_sections (file_is file.now) bytes.now (builder_is self.old)
+            (filter (relocates target) (all_sections (file_is file.now)))) }
     {
         for section in file.sections() {
-            if relocates_compactly(&section, target) {
-                return Err(RelocationError::CompactRelocations(section.index));
-            }
             if relocates(&section, target) {
-                self.take_section(file, bytes, &section)?;
+                self.add_section(file, bytes, &section)?;
             }
-        }
-        Ok(())
-    }
-
-    // one entry more
-    #[tactic(auto, using(crate::proofs::Taking::refused))]
-    fn take(&mut self, source: &Source, entry: RelocationEntry) -> Result<(), RelocationError>
-        ensures { Took result (made_is self.new) (taken (source_is source.now) (made_is self.old) entry) }
-    {
-        if let Some(first) = self.waiting {
-            self.waiting = None;
-            self.records
-                .push(source.pair(&first.entry, first.width, &entry)?)?;
-            return Ok(());
-        }
-        match source.action(&entry)? {
-            Action::Nothing => {}
-            Action::Absolute(width) => self.records.push(source.absolute(&entry, width)?)?,
-            Action::Add(width) => self.waiting = Some(Waiting { entry, width }),
-            Action::Sub(_) => return Err(RelocationError::SubWithoutAdd(entry.offset)),
         }
         Ok(())
     }
 
     // the entries of one relocation section, whose link is the table of their symbols
-    fn take_section(
+    fn add_section(
         &mut self,
         file: &ElfFile,
         bytes: &[u8],
         section: &Section,
     ) -> Result<(), RelocationError>
-        ensures { Took result (made_is self.new) (section_taken (file_is file.now) bytes.now (made_is self.old) section.now) }
+        ensures { AnswersGivenMemory (λ _. builder_is self.new) result
+            (with_section (file_is file.now) bytes.now (builder_is self.old) section.now) }
     {
+        if section.kind == SectionKind::Crel {
+            return Err(RelocationError::CompactRelocations(section.index));
+        }
         let table = file.section(section.link as u64)?;
         let source = Source {
             file: *file,
             bytes,
             symbols: file.symbols(&table)?,
         };
-        self.take_all(&source, file.relocations(section)?)?;
+        self.add_entries(&source, file.relocations(section)?)?;
         match self.waiting {
-            Some(first) => Err(RelocationError::AddWithoutSub(first.entry.offset)),
+            Some(add) => Err(RelocationError::AddWithoutSub(add.entry.offset)),
             None => Ok(()),
         }
     }
 
-    fn take_all(&mut self, source: &Source, entries: Relocations) -> Result<(), RelocationError>
-        ensures { Took result (made_is self.new) (all_taken (source_is source.now) (made_is self.old) (left entries.entry)) }
+    fn add_entries(&mut self, source: &Source, entries: Relocations) -> Result<(), RelocationError>
+        ensures { AnswersGivenMemory (λ _. builder_is self.new) result
+            (with_entries (source_is source.now) (builder_is self.old)
+            (entries_left entries.entry)) }
     {
         for entry in entries {
-            self.take(source, entry)?;
+            self.add_entry(source, entry)?;
+        }
+        Ok(())
+    }
+
+    fn add_entry(&mut self, source: &Source, entry: RelocationEntry) -> Result<(), RelocationError>
+        ensures { AnswersGivenMemory (λ _. builder_is self.new) result
+            (with_entry (source_is source.now) (builder_is self.old) entry) }
+    {
+        if let Some(add) = self.waiting {
+            self.waiting = None;
+            self.records.push(source.pair(&add, &entry)?)?;
+            return Ok(());
+        }
+        match source.action(&entry)? {
+            Action::Nothing => {}
+            Action::Absolute(width) => self.records.push(source.address(&entry, width)?)?,
+            Action::Add(width) => self.waiting = Some(Waiting { entry, width }),
+            Action::Sub(_) => return Err(RelocationError::SubWithoutAdd(entry.offset)),
         }
         Ok(())
     }
@@ -127,42 +114,31 @@ pub fn relocations_for(
     file: &ElfFile,
     section: u64,
 ) -> Result<Vec<Applied>, RelocationError>
-    ensures { Answered result (table_of (file_is file.now) section) }
+    ensures { AnswersGivenMemory (λ v. v.items) result (table_of (file_is file.now) section) }
 {
-    let mut made = Made::new(heap);
+    let mut builder = Builder::new(heap);
     if file.kind() == FileKind::Relocatable {
         let bytes = file.data(&file.section(section)?)?;
-        made.take_sections(file, section, bytes)?;
-        check_places(heap, &made.records)?;
+        builder.add_sections(file, section, bytes)?;
+        check_places(heap, &builder.records)?;
     }
-    Ok(made.records)
-}
-
-/// The records as a relocation table has them.
-pub fn records(heap: Global, applied: &[Applied]) -> Result<Vec<Relocation>, AllocError>
-    ensures { IfOk result (λ v. v.items ≡ map (λ a. a.relocation) applied.now) }
-{
-    applied.iter().map(|record| record.relocation).collect(heap)
+    Ok(builder.records)
 }
 
 // whether a section has relocations of the section with an index
 fn relocates(section: &Section, target: u64) -> bool
     ensures { result ≡ relocates target section.now }
 {
-    let entries = section.kind == WITH_ADDENDS || section.kind == WITHOUT_ADDENDS;
+    let entries = matches!(
+        section.kind,
+        SectionKind::Rela | SectionKind::Rel | SectionKind::Crel
+    );
     entries && section.info as u64 == target
-}
-
-// whether a section has them in the compact form
-fn relocates_compactly(section: &Section, target: u64) -> bool
-    ensures { result ≡ relocates_compactly target section.now }
-{
-    section.kind == COMPACT && section.info as u64 == target
 }
 
 // no two records may be for one place: it would show only one of them
 fn check_places(heap: Global, records: &[Applied]) -> Result<(), RelocationError>
-    ensures { Took result tt (checked records.now) }
+    ensures { AnswersGivenMemory (λ _. records.now) result (distinct_records records.now) }
 {
     let mut seen = BTreeSet::new(heap);
     for record in records {

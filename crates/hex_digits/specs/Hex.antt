@@ -1,21 +1,24 @@
 -- Hexadecimal digits, 0 to 9 and a to f, two to a byte.
-use Rattle.std.specs.Prelude.{ℕ, ◌+◌, ◌-◌, ◌*◌, ◌/◌, ◌%◌, cond, ◌&&◌, List, [], ◌∷◌, nat_le, nat_lt}
+use Rattle.std.specs.Prelude.{ℕ, ◌+◌, ◌-◌, ◌*◌, ◌/◌, ◌%◌, if◌then◌else◌, ◌&&◌, List, [], ◌∷◌, nat_le, nat_lt}
 
 -- what a digit counts, and 0 for a byte that is none
-abbrev pub value : ℕ → ℕ
-value d = cond (nat_le 48 d && nat_le d 57) (d - 48) (cond (nat_le 97 d && nat_le d 102) (d - 97 + 10) 0)
+abbrev pub digit_value : ℕ → ℕ
+digit_value d =
+    if nat_le 48 d && nat_le d 57 then d - 48
+    else if nat_le 97 d && nat_le d 102 then d - 97 + 10
+    else 0
 
 -- the digit that counts n
 abbrev pub digit : ℕ → ℕ
-digit n = cond (nat_lt n 10) (48 + n) (97 + (n - 10))
+digit n = if nat_lt n 10 then 48 + n else 97 + (n - 10)
 
 -- the bytes that pairs of digits count
-abbrev pub decoded : List ℕ → List ℕ
-decoded [] = []
-decoded (h ∷ []) = []
-decoded (h ∷ l ∷ ds) = (16 * value h + value l) ∷ decoded ds
+abbrev pub bytes_from_hex : List ℕ → List ℕ
+bytes_from_hex [] = []
+bytes_from_hex (h ∷ []) = []
+bytes_from_hex (h ∷ l ∷ ds) = (16 * digit_value h + digit_value l) ∷ bytes_from_hex ds
 
 -- the digits of bytes
-abbrev pub encoded : List ℕ → List ℕ
-encoded [] = []
-encoded (b ∷ bs) = digit (b / 16) ∷ digit (b % 16) ∷ encoded bs
+abbrev pub hex_of : List ℕ → List ℕ
+hex_of [] = []
+hex_of (b ∷ bs) = digit (b / 16) ∷ digit (b % 16) ∷ hex_of bs

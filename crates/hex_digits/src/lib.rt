@@ -2,13 +2,13 @@
 #![tactic(auto)]
 
 ghost use Rattle.std.specs.Prelude.{◌≡◌, ℕ, ◌<◌, IfOk, string_bytes};
-ghost use Rattle.hex_digits.specs.Hex.{value, decoded, encoded};
+ghost use Rattle.hex_digits.specs.Hex.{digit_value, bytes_from_hex, hex_of};
 
 use std::alloc::{AllocError, Global};
 
 /// The bytes that pairs of digits stand for; a digit that is none counts as 0, and an odd one at the end as nothing.
 pub fn decode(heap: Global, digits: &[u8]) -> Result<Vec<u8>, AllocError>
-    ensures { IfOk result (λ v. v.items ≡ decoded digits.now) }
+    ensures { IfOk result (λ v. v.items ≡ bytes_from_hex digits.now) }
 {
     let (pairs, _) = digits.as_chunks::<2>();
     pairs
@@ -17,9 +17,9 @@ pub fn decode(heap: Global, digits: &[u8]) -> Result<Vec<u8>, AllocError>
         .collect(heap)
 }
 
-// 0, and no None, for what is no digit; A to F are none, so that `to_digit` of char does not do.
+// What a digit counts, and 0 for what is none; A to F are none.
 fn digit_value(digit: u8) -> u8
-    ensures is { result ≡ value digit }
+    ensures is { result ≡ digit_value digit }
     ensures low { result < 16 }
 {
     match digit {
@@ -31,10 +31,9 @@ fn digit_value(digit: u8) -> u8
 
 /// The digits of some bytes.
 pub fn encode(heap: Global, bytes: &[u8]) -> Result<String, AllocError>
-    ensures { IfOk result (λ s. string_bytes s ≡ encoded bytes.now) }
+    ensures { IfOk result (λ s. string_bytes s ≡ hex_of bytes.now) }
 {
     let mut text = String::new(heap);
-    // a loop: `try_for_each` would hold the same step and its `?` in a closure
     for byte in bytes {
         write!(text, "{byte:02x}")?;
     }

@@ -3,9 +3,9 @@ use Rattle.std.proofs.Common.{◌≡◌, ℕ, suc, ◌+◌, ◌*◌, ◌%◌, �
 use Rattle.std.proofs.lemmas.Nat.{pow-add, pow_below, one_shl}
 use Rattle.std.proofs.lemmas.Int.{ints}
 use Rattle.std.proofs.lemmas.Bool.Decides.{nat_tests}
-use Rattle.readers.specs.Reading.{Meaning, Step, gives, refuses, fixed}
+use Rattle.readers.specs.Reading.{Meaning, Step, gives, refuses, fixed_number}
 use Rattle.readers.specs.Links.{Did}
-use Rattle.leb128.specs.Leb128.{spelling, up_to, more, bits, sign, signed}
+use Rattle.leb128.specs.Leb128.{spelling, up_to, more, bits, sign, signed_leb128}
 use Rattle.readers.proofs.Steps.{then_same}
 use Rattle.leb128.proofs.Spelling.{left, left_last, left_more, left_nine, spelt_one}
 
@@ -22,7 +22,7 @@ whole b = eqb b 0 || eqb b 127
 abbrev pub ends : ℕ → ℕ → ℕ → List ℕ → Meaning → Step ℤ
 ends d p acc bs a = chosen (whole (get_or bs d 0)) a (signed_by (sign bs) (acc + p * bits bs) (p * 2 ^ (7 * length bs)))
 
-pub start : (m : Meaning) → left more [] ends 0 0 m ≡ signed m
+pub start : (m : Meaning) → left more [] ends 0 0 m ≡ signed_leb128 m
 unfolding left
 start m =
     then_same (spelling (up_to 10) m) (ends 9 1 0) _
@@ -40,7 +40,7 @@ law d p acc b c bs z =
     ap (λ x. p * 2 ^ x) seven ∙ ap (λ x. p * x) (pow-add 2 7 (7 * length (c ∷ bs))) ∙ sym (mul_assoc p 128 (2 ^ (7 * length (c ∷ bs)))) in
     ap₂ (λ x y. chosen (whole (get_or (c ∷ bs) d 0)) z (signed_by (sign (c ∷ bs)) x y)) e q
 
-module _ (i acc : ℕ) (m a : Meaning) (b : ℕ) (h : i < 9) (did : Did (λ (x : ℕ). x) (Ok b) a (fixed 1 m)) where
+module _ (i acc : ℕ) (m a : Meaning) (b : ℕ) (h : i < 9) (did : Did (λ (x : ℕ). x) (Ok b) a (fixed_number 1 m)) where
   pub goes_on : 128 ≤ b → left more [] ends i acc m ≡ left more [] ends (i + 1) (acc + 2 ^ (7 * i) * (b % 128)) a
   goes_on f = left_more more [] ends law i acc m a b h did f
 
@@ -55,7 +55,7 @@ whole_no b h k = grind (arith, nat_tests)
 less_none : (v : ℕ) → pos v -ℤ pos 0 ≡ pos v
 less_none v = omega (arith, ints)
 
-module _ (i acc : ℕ) (m a : Meaning) (b : ℕ) (h : i < 9) (did : Did (λ (x : ℕ). x) (Ok b) a (fixed 1 m)) (f : b < 128) where
+module _ (i acc : ℕ) (m a : Meaning) (b : ℕ) (h : i < 9) (did : Did (λ (x : ℕ). x) (Ok b) a (fixed_number 1 m)) (f : b < 128) where
   pub ends_plain : b < 64 → left more [] ends i acc m ≡ gives (pos (acc + 2 ^ (7 * i) * (b % 128))) a
   ends_plain k =
       let t : leb 64 (b % 128) ≡ false = grind arith in
@@ -76,7 +76,7 @@ half_is i h =
     let b : 2 ^ (7 * i + 6) < 2 ^ 63 = pow_below (7 * i + 6) 63 (omega arith) in
     (s ∙ e, omega arith)
 
-module _ (i acc : ℕ) (m a : Meaning) (b : ℕ) (nine : i ≡ 9) (did : Did (λ (x : ℕ). x) (Ok b) a (fixed 1 m)) where
+module _ (i acc : ℕ) (m a : Meaning) (b : ℕ) (nine : i ≡ 9) (did : Did (λ (x : ℕ). x) (Ok b) a (fixed_number 1 m)) where
   tenth_is : left more [] ends i acc m ≡ ends 0 (2 ^ 63) acc (b ∷ []) a
   tenth_is = left_nine more [] ends i acc m nine ∙ spelt_one more (ends 0 (2 ^ 63) acc) m a b did
 

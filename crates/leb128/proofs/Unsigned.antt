@@ -1,9 +1,9 @@
 -- An unsigned number, byte by byte. Assumes nothing.
 use Rattle.std.proofs.Common.{◌≡◌, ℕ, suc, ◌+◌, ◌*◌, ◌%◌, ◌^◌, ◌<◌, ◌≤◌, Bool, true, false, cond, leb, List, [], ◌∷◌, get_or, Ok, sym, ap, ◌∙◌, ap₂, mul_assoc, mul-add, arith}
 use lib.Bits.{bit_or}
-use Rattle.readers.specs.Reading.{Meaning, Step, gives, refuses, fixed}
+use Rattle.readers.specs.Reading.{Meaning, Step, gives, refuses, fixed_number}
 use Rattle.readers.specs.Links.{Did}
-use Rattle.leb128.specs.Leb128.{spelling, up_to, more, bits, unsigned}
+use Rattle.leb128.specs.Leb128.{spelling, up_to, more, bits, unsigned_leb128}
 use Rattle.readers.proofs.Steps.{then_same}
 use Rattle.leb128.proofs.Spelling.{left, left_last, left_more, left_nine, spelt_one, higher}
 
@@ -13,7 +13,7 @@ ends d p acc bs a = cond (leb (get_or bs d 0) 1) (gives (acc + p * bits bs) a) (
 abbrev chosen : Bool → Meaning → ℕ → Step ℕ
 chosen t a v = cond t (gives v a) (refuses 8 0 a)
 
-pub start : (m : Meaning) → left more [] ends 0 0 m ≡ unsigned m
+pub start : (m : Meaning) → left more [] ends 0 0 m ≡ unsigned_leb128 m
 unfolding left
 start m =
     then_same (spelling (up_to 10) m) (ends 9 1 0) _
@@ -25,7 +25,7 @@ law d p acc b c bs z =
     omega (arith, mul-add p (b % 128) (128 * bits (c ∷ bs)), mul_assoc p 128 (bits (c ∷ bs))) in
     ap (chosen (leb (get_or (c ∷ bs) d 0) 1) z) e
 
-module _ (i acc : ℕ) (m a : Meaning) (b : ℕ) (h : i < 9) (did : Did (λ (x : ℕ). x) (Ok b) a (fixed 1 m)) where
+module _ (i acc : ℕ) (m a : Meaning) (b : ℕ) (h : i < 9) (did : Did (λ (x : ℕ). x) (Ok b) a (fixed_number 1 m)) where
   pub goes_on : 128 ≤ b → left more [] ends i acc m ≡ left more [] ends (i + 1) (acc + 2 ^ (7 * i) * (b % 128)) a
   goes_on f = left_more more [] ends law i acc m a b h did f
 
@@ -34,7 +34,7 @@ module _ (i acc : ℕ) (m a : Meaning) (b : ℕ) (h : i < 9) (did : Did (λ (x :
       let e : b % 128 + 128 * 0 ≡ b % 128 = omega arith in
       left_last more [] ends i acc m a b h did f ∙ ap (λ x. gives (acc + 2 ^ (7 * i) * x) a) e
 
-module _ (i acc : ℕ) (m a : Meaning) (b : ℕ) (nine : i ≡ 9) (did : Did (λ (x : ℕ). x) (Ok b) a (fixed 1 m)) where
+module _ (i acc : ℕ) (m a : Meaning) (b : ℕ) (nine : i ≡ 9) (did : Did (λ (x : ℕ). x) (Ok b) a (fixed_number 1 m)) where
   tenth_is : left more [] ends i acc m ≡ chosen (leb b 1) a (acc + 2 ^ 63 * (b % 128 + 128 * 0))
   tenth_is = left_nine more [] ends i acc m nine ∙ spelt_one more (ends 0 (2 ^ 63) acc) m a b did
 

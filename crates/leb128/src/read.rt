@@ -2,14 +2,14 @@
 ghost use Rattle.std.specs.Prelude.{◌≡◌, ◌+◌, ◌*◌, ◌%◌, ◌^◌, ◌<◌, ◌≤◌, pos, ◌-ℤ◌, length};
 ghost use Rattle.readers.specs.Reading.{Meaning, past};
 ghost use Rattle.readers.specs.Links.{Did};
-ghost use Rattle.leb128.specs.Leb128.{unsigned, unsigned_32, unsigned_16, signed, passed};
+ghost use Rattle.leb128.specs.Leb128.{unsigned_leb128, unsigned_leb128_32, unsigned_leb128_16, signed_leb128, leb128_skip};
 
 use numbers::read_u8;
 use readers::{Error, Reader, ReaderOffset};
 
 /// Moves past a number, whatever its length.
 pub fn skip_leb128<R: Reader>(reader: &mut R) -> Result<(), Error>
-    ensures { Did (λ x. x) result (R.Reader.means reader.new) (passed (R.Reader.means reader.old)) }
+    ensures { Did (λ x. x) result (R.means reader.new) (leb128_skip (R.means reader.old)) }
 {
     loop {
         let byte = read_u8(reader)?;
@@ -32,7 +32,7 @@ fn with_group(bits: u64, byte: u8, i: u32) -> u64
 
 /// An unsigned number of at most ten bytes.
 pub fn read_uleb128<R: Reader>(reader: &mut R) -> Result<u64, Error>
-    ensures { Did (λ x. x) result (R.Reader.means reader.new) (unsigned (R.Reader.means reader.old)) }
+    ensures { Did (λ x. x) result (R.means reader.new) (unsigned_leb128 (R.means reader.old)) }
 {
     let Some(bytes) = reader.next_ten() else {
         return read_by_bytes(reader);
@@ -68,18 +68,17 @@ pub fn read_uleb128<R: Reader>(reader: &mut R) -> Result<u64, Error>
 
 // Moves past some of the bytes that are left.
 fn pass<R: Reader>(reader: &mut R, len: u32)
-    requires { len ≤ length (R.Reader.means reader.old).rest }
-    ensures { R.Reader.means reader.new ≡ past len (R.Reader.means reader.old) }
+    requires { len ≤ length (R.means reader.old).rest }
+    ensures { R.means reader.new ≡ past len (R.means reader.old) }
 {
     reader.skip(R::Offset::from_u32(len)).unwrap();
 }
 
 // An unsigned number where fewer than ten bytes may be left: each byte is asked for.
 fn read_by_bytes<R: Reader>(reader: &mut R) -> Result<u64, Error>
-    ensures { Did (λ x. x) result (R.Reader.means reader.new) (unsigned (R.Reader.means reader.old)) }
+    ensures { Did (λ x. x) result (R.means reader.new) (unsigned_leb128 (R.means reader.old)) }
 {
-    // Its own loop, and read_sleb128's: one function for both, which answers the bits and the last byte, was tried, and
-    // numbers of one byte took four times as long.
+    // a loop of its own: with one for unsigned and signed numbers, those of one byte took four times as long
     let mut result = 0u64;
     // one `Ok`, as above
     let value = 'value: {
@@ -101,16 +100,15 @@ fn read_by_bytes<R: Reader>(reader: &mut R) -> Result<u64, Error>
 
 /// An unsigned number that 32 bits hold.
 pub fn read_uleb128_u32<R: Reader>(reader: &mut R) -> Result<u32, Error>
-    ensures { Did (λ x. x) result (R.Reader.means reader.new) (unsigned_32 (R.Reader.means reader.old)) }
+    ensures { Did (λ x. x) result (R.means reader.new) (unsigned_leb128_32 (R.means reader.old)) }
 {
     let value = read_uleb128(reader)?;
     u32::try_from(value).map_err(|_| Error::BadUnsignedLeb128)
 }
 
-// No loop, as in gimli: three bytes at most, in 16 bits, and the third has a limit of its own.
 /// An unsigned number of at most three bytes, which 16 bits hold.
 pub fn read_uleb128_u16<R: Reader>(reader: &mut R) -> Result<u16, Error>
-    ensures { Did (λ x. x) result (R.Reader.means reader.new) (unsigned_16 (R.Reader.means reader.old)) }
+    ensures { Did (λ x. x) result (R.means reader.new) (unsigned_leb128_16 (R.means reader.old)) }
 {
     let first = read_u8(reader)?;
     if first < 0x80 {
@@ -141,7 +139,7 @@ fn less_twice(value: u64, half: u64) -> i64
 
 /// A signed number of at most ten bytes.
 pub fn read_sleb128<R: Reader>(reader: &mut R) -> Result<i64, Error>
-    ensures { Did (λ x. x) result (R.Reader.means reader.new) (signed (R.Reader.means reader.old)) }
+    ensures { Did (λ x. x) result (R.means reader.new) (signed_leb128 (R.means reader.old)) }
 {
     let mut result = 0u64;
     for i in 0..9u32 {

@@ -1,4 +1,4 @@
 pub mod Spans
 pub mod Fills
-pub mod Lists
 pub mod Rows
+pub mod Written

@@ -1,7 +1,7 @@
 // What each call returns: the fault, or that there is none.
 ghost use Rattle.std.specs.Prelude.{◌≡◌};
 ghost use Rattle.readers.specs.Links.{fault_is, outcome_is};
-ghost use Rattle.mallethill.specs.Told.{told, returned, held};
+ghost use Rattle.mallethill.specs.Told.{c_fault, returned_fault, answer_or};
 
 use readers::Error;
 
@@ -20,7 +20,7 @@ impl Fault {
     };
 }
 
-// The number of a fault, as docs/FAULTS.md lists them: C has no enum with payloads.
+// The number of a fault, as docs/FAULTS.md lists them.
 fn number(error: Error) -> u8
     ensures { result ≡ (fault_is error).number }
 {
@@ -44,7 +44,7 @@ fn number(error: Error) -> u8
 
 impl From<Error> for Fault {
     fn from(error: Error) -> Fault
-        ensures { result ≡ told (fault_is error) }
+        ensures { result ≡ c_fault (fault_is error) }
     {
         Fault {
             payload: error.payload(),
@@ -55,8 +55,8 @@ impl From<Error> for Fault {
 
 /// Puts an answer into its place, or leaves the place as it was and tells the fault.
 pub fn settle<T: Copy>(outcome: Result<T, Error>, place: &mut T) -> Fault
-    ensures fault { result ≡ returned (outcome_is (λ x. x) outcome) }
-    ensures place { place.new ≡ held place.old (outcome_is (λ x. x) outcome) }
+    ensures fault { result ≡ returned_fault (outcome_is (λ x. x) outcome) }
+    ensures place { place.new ≡ answer_or place.old (outcome_is (λ x. x) outcome) }
 {
     match outcome {
         Ok(answer) => {

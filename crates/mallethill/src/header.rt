@@ -3,10 +3,10 @@ ghost use Rattle.std.specs.Prelude.{◌≡◌, ◌^◌, length, IfOk};
 ghost use Rattle.readers.specs.Links.{outcome_is};
 ghost use Rattle.aranges.specs.Links.{header_is};
 ghost use Rattle.aranges.specs.Sets.{header_past};
-ghost use Rattle.readers.specs.Reading.{plain};
+ghost use Rattle.readers.specs.Reading.{plain_reader};
 ghost use Rattle.section_reader.specs.Means.{section_means};
-ghost use Rattle.mallethill.specs.Told.{returned, held, filled};
-ghost use Rattle.mallethill.specs.Headers.{fields_of, header_at, headers_from, counted, Within};
+ghost use Rattle.mallethill.specs.Told.{returned_fault, answer_or, buffer_with};
+ghost use Rattle.mallethill.specs.Headers.{fields_of, set_header_at, headers_from, headers_read, Within};
 
 use crate::fault::{Fault, settle};
 use crate::section::open;
@@ -35,8 +35,9 @@ pub extern "C" fn mallethill_header(
     offset: u64,
     answer: &mut SetHeader,
 ) -> Fault
-    ensures fault { result ≡ returned (header_at section.now big_endian offset) }
-    ensures answer { answer.new ≡ held answer.old (header_at section.now big_endian offset) }
+    ensures fault { result ≡ returned_fault (set_header_at section.now big_endian offset) }
+    ensures answer { answer.new
+        ≡ answer_or answer.old (set_header_at section.now big_endian offset) }
 {
     settle(read_header(section, big_endian, offset), answer)
 }
@@ -59,9 +60,13 @@ pub extern "C" fn mallethill_headers(
     headers: &mut [SetHeader],
     answer: &mut HeadersRead,
 ) -> Fault
-    ensures fault { result ≡ (headers_from section.now big_endian (length headers.old) offset).ended }
-    ensures answer { answer.new ≡ counted (headers_from section.now big_endian (length headers.old) offset) }
-    ensures headers { headers.new ≡ filled headers.old (headers_from section.now big_endian (length headers.old) offset).items }
+    ensures fault { result
+        ≡ (headers_from section.now big_endian (length headers.old) offset).ended }
+    ensures answer { answer.new
+        ≡ headers_read (headers_from section.now big_endian (length headers.old) offset) }
+    ensures headers { headers.new
+        ≡ buffer_with headers.old
+        (headers_from section.now big_endian (length headers.old) offset).items }
 {
     let (read, fault) = read_headers(section, big_endian, offset, headers);
     *answer = read;
@@ -74,9 +79,13 @@ fn read_headers(
     offset: u64,
     headers: &mut [SetHeader],
 ) -> (HeadersRead, Fault)
-    ensures fault { result.1 ≡ (headers_from section.now big_endian (length headers.old) offset).ended }
-    ensures answer { result.0 ≡ counted (headers_from section.now big_endian (length headers.old) offset) }
-    ensures headers { headers.new ≡ filled headers.old (headers_from section.now big_endian (length headers.old) offset).items }
+    ensures fault { result.1
+        ≡ (headers_from section.now big_endian (length headers.old) offset).ended }
+    ensures answer { result.0
+        ≡ headers_read (headers_from section.now big_endian (length headers.old) offset) }
+    ensures headers { headers.new
+        ≡ buffer_with headers.old
+        (headers_from section.now big_endian (length headers.old) offset).items }
 {
     let mut count = 0usize;
     let mut next = offset;
@@ -100,7 +109,7 @@ fn read_headers(
 // One header, as a result.
 #[inline(always)]
 fn read_header(section: &[u8], big_endian: bool, offset: u64) -> Result<SetHeader, Error>
-    ensures { outcome_is (λ x. x) result ≡ header_at section.now big_endian offset }
+    ensures { outcome_is (λ x. x) result ≡ set_header_at section.now big_endian offset }
 {
     Ok(open_set(section, big_endian, offset)?.fields)
 }
@@ -115,9 +124,12 @@ pub struct OpenSet<'a> {
 /// The set at an offset of a section.
 #[inline(always)]
 pub fn open_set(section: &[u8], big_endian: bool, offset: u64) -> Result<OpenSet<'_>, Error>
-    ensures reads { outcome_is (λ s. header_is section_means (λ x. x) s.header) result ≡ header_past (2 ^ 64) offset (plain 0 section.now big_endian) }
-    ensures fields { IfOk result (λ s. s.fields ≡ fields_of (header_is section_means (λ x. x) s.header)) }
-    ensures inside { IfOk result (λ s. Within (length section.now) (header_is section_means (λ x. x) s.header)) }
+    ensures reads { outcome_is (λ s. header_is section_means (λ x. x) s.header) result
+        ≡ header_past (2 ^ 64) offset (plain_reader 0 section.now big_endian) }
+    ensures fields { IfOk result
+        (λ s. s.fields ≡ fields_of (header_is section_means (λ x. x) s.header)) }
+    ensures inside { IfOk result
+        (λ s. Within (length section.now) (header_is section_means (λ x. x) s.header)) }
 {
     let header = header_within(section, big_endian, offset)?;
     let encoding = header.encoding();
@@ -141,8 +153,10 @@ fn header_within(
     big_endian: bool,
     offset: u64,
 ) -> Result<ArangeHeader<EndianSlice<'_>>, Error>
-    ensures reads { outcome_is (header_is section_means (λ x. x)) result ≡ header_past (2 ^ 64) offset (plain 0 section.now big_endian) }
-    ensures inside { IfOk result (λ h. Within (length section.now) (header_is section_means (λ x. x) h)) }
+    ensures reads { outcome_is (header_is section_means (λ x. x)) result
+        ≡ header_past (2 ^ 64) offset (plain_reader 0 section.now big_endian) }
+    ensures inside { IfOk result
+        (λ h. Within (length section.now) (header_is section_means (λ x. x) h)) }
 {
     let section = DebugAranges::new(open(section, big_endian));
     section.header(DebugArangesOffset(offset as usize))

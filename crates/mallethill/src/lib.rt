@@ -2,14 +2,14 @@
 #![tactic(auto)]
 
 mod fault;
+mod found;
 mod header;
-mod lookup;
 mod ranges;
 mod section;
 mod uleb128;
 
 pub use fault::Fault;
+pub use found::FoundRange;
 pub use header::{HeadersRead, SetHeader};
-pub use lookup::FoundRange;
 pub use ranges::{AddressRange, RangesRead};
 pub use uleb128::NumbersRead;

@@ -1,15 +1,16 @@
 // The ranges of a set.
-ghost use Rattle.std.specs.Prelude.{◌≡◌, ◌^◌, ◌<◌, length};
+ghost use Rattle.std.specs.Prelude.{◌≡◌};
 ghost use Rattle.readers.specs.Links.{outcome_is};
-ghost use Rattle.aranges.specs.Links.{header_is, entries_is};
-ghost use Rattle.aranges.specs.Iterators.{entries_of};
-ghost use Rattle.mallethill.specs.Told.{returned, held, filled, outcome_map};
-ghost use Rattle.mallethill.specs.Ranges.{listed_on, ranges_of, ranges_read, set_at, counted};
+ghost use Rattle.aranges.specs.Answers.{answers_on};
+ghost use Rattle.aranges.specs.Links.{header_is};
+ghost use Rattle.mallethill.specs.Told.{returned_fault, answer_or, buffer_with, outcome_map};
+ghost use Rattle.mallethill.specs.Ranges.{ranges_of, ranges_read, set_at};
 
 use crate::fault::{Fault, settle};
 use crate::header::open_set;
-use aranges::{ArangeEntryIter, ArangeHeader};
-use readers::{AddressReader, Error, Reader};
+use aranges::{Answer, ArangeHeader, Visitor};
+use readers::{AddressReader, DebugArangesOffset, Error};
+use std::ops::ControlFlow;
 
 /// The addresses from `begin` on, up to `end` and without it.
 #[repr(C)]
@@ -29,10 +30,47 @@ pub struct RangesRead {
     pub next: u64,
 }
 
-// The first two of these.
-struct Counts {
-    count: u64,
+// Writes the ranges that it is shown while there is room, and counts them all, and the faulty tuples.
+#[derive(Drop)]
+struct RangeWriter<'a> {
+    ranges: &'a mut [AddressRange],
+    count: usize,
     passed: u64,
+}
+
+impl<R: AddressReader> Visitor<R> for RangeWriter<'_> {
+    ghost use Rattle.mallethill.specs.Writing.{Writes};
+
+    ghost visits = { Writes };
+
+    #[inline(always)]
+    fn enter(&mut self, _header: &ArangeHeader<R>) -> ControlFlow<()> {
+        ControlFlow::Continue(())
+    }
+
+    // each range and each fault took a byte, so their numbers are ones of u64
+    #[inline(always)]
+    fn answer(&mut self, _header: &ArangeHeader<R>, answer: Answer) -> ControlFlow<()> {
+        match answer.outcome {
+            Ok(entry) => {
+                let range = entry.range();
+                if self.count < self.ranges.len() {
+                    self.ranges[self.count] = AddressRange {
+                        begin: range.begin,
+                        end: range.end,
+                    };
+                }
+                self.count = self.count.saturating_add(1);
+            }
+            Err(_) => self.passed = self.passed.saturating_add(1),
+        }
+        ControlFlow::Continue(())
+    }
+
+    #[inline(always)]
+    fn spoilt(&mut self, _offset: DebugArangesOffset<u64>, _error: Error) -> ControlFlow<()> {
+        ControlFlow::Continue(())
+    }
 }
 
 /// The ranges of the set at an offset of a section: those for which there is room are written, all are counted.
@@ -44,11 +82,29 @@ pub extern "C" fn mallethill_ranges(
     ranges: &mut [AddressRange],
     answer: &mut RangesRead,
 ) -> Fault
-    ensures fault { result ≡ returned (set_at section.now big_endian offset) }
-    ensures answer { answer.new ≡ held answer.old (outcome_map ranges_read (set_at section.now big_endian offset)) }
-    ensures ranges { ranges.new ≡ held ranges.old (outcome_map (λ h. filled ranges.old (ranges_of h)) (set_at section.now big_endian offset)) }
+    ensures fault { result ≡ returned_fault (set_at section.now big_endian offset) }
+    ensures answer { answer.new
+        ≡ answer_or answer.old (outcome_map ranges_read (set_at section.now big_endian offset)) }
+    ensures ranges { ranges.new
+        ≡ answer_or ranges.old
+        (outcome_map (λ h. buffer_with ranges.old (ranges_of h))
+        (set_at section.now big_endian offset)) }
 {
     settle(read_set(section, big_endian, offset, ranges), answer)
+}
+
+impl RangeWriter<'_> {
+    ghost use Rattle.mallethill.specs.Writing.{written_by, with_answers};
+
+    // Writes the ranges of a set.
+    fn write<R: AddressReader>(&mut self, header: &ArangeHeader<R>)
+        ensures name { self.new.ranges.ghost_name ≡ self.old.ranges.ghost_name }
+        ensures written { written_by self.new
+            ≡ with_answers (written_by self.old)
+            (answers_on (header_is R.means R.Offset.number header.now)) }
+    {
+        header.visit(self);
+    }
 }
 
 // The same as a result; only where the header is read does it write.
@@ -58,64 +114,24 @@ fn read_set(
     offset: u64,
     ranges: &mut [AddressRange],
 ) -> Result<RangesRead, Error>
-    ensures answer { outcome_is (λ x. x) result ≡ outcome_map ranges_read (set_at section.now big_endian offset) }
-    ensures ranges { ranges.new ≡ held ranges.old (outcome_map (λ h. filled ranges.old (ranges_of h)) (set_at section.now big_endian offset)) }
+    ensures answer { outcome_is (λ x. x) result
+        ≡ outcome_map ranges_read (set_at section.now big_endian offset) }
+    ensures ranges { ranges.new
+        ≡ answer_or ranges.old
+        (outcome_map (λ h. buffer_with ranges.old (ranges_of h))
+        (set_at section.now big_endian offset)) }
 {
     let set = open_set(section, big_endian, offset)?;
-    let Counts { count, passed } = read_ranges(&set.header, ranges);
+    let mut writer = RangeWriter {
+        ranges,
+        count: 0,
+        passed: 0,
+    };
+    writer.write(&set.header);
     Ok(RangesRead {
-        count,
-        passed,
+        count: writer.count as u64,
+        passed: writer.passed,
         debug_info_offset: set.fields.debug_info_offset,
         next: set.fields.next,
     })
-}
-
-// The ranges of a set.
-fn read_ranges<R: AddressReader>(header: &ArangeHeader<R>, ranges: &mut [AddressRange]) -> Counts
-    requires { length (R.Reader.means header.now.entries).rest < 2 ^ 64 }
-    ensures answer { result ≡ counted (listed_on (entries_of (header_is R.Reader.means R.Offset.ReaderOffset.number header.now))) }
-    ensures ranges { ranges.new ≡ filled ranges.old (listed_on (entries_of (header_is R.Reader.means R.Offset.ReaderOffset.number header.now))).ranges }
-{
-    // for speed, a loop of its own for each of the usual sizes
-    match header.encoding().address_size {
-        4 => read_entries(header.entries_sized(4), ranges),
-        8 => read_entries(header.entries_sized(8), ranges),
-        _ => read_entries(header.entries(), ranges),
-    }
-}
-
-// The ranges of the tuples that are left: one pass, which writes while there is room and counts on.
-#[inline(always)]
-fn read_entries<R: AddressReader>(
-    mut entries: ArangeEntryIter<R>,
-    ranges: &mut [AddressRange],
-) -> Counts
-    requires { length (R.Reader.means entries.input).rest < 2 ^ 64 }
-    ensures answer { result ≡ counted (listed_on (entries_is R.Reader.means entries)) }
-    ensures ranges { ranges.new ≡ filled ranges.old (listed_on (entries_is R.Reader.means entries)).ranges }
-{
-    let mut count = 0usize;
-    let mut passed = 0u64;
-    loop {
-        match entries.next() {
-            Ok(Some(entry)) => {
-                let range = entry.range();
-                if count < ranges.len() {
-                    ranges[count] = AddressRange {
-                        begin: range.begin,
-                        end: range.end,
-                    };
-                }
-                count += 1;
-            }
-            Ok(None) => {
-                return Counts {
-                    count: count as u64,
-                    passed,
-                };
-            }
-            Err(_) => passed += 1,
-        }
-    }
 }

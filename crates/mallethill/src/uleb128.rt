@@ -1,7 +1,7 @@
 // Rows of unsigned LEB128 numbers.
 ghost use Rattle.std.specs.Prelude.{◌≡◌, length};
-ghost use Rattle.mallethill.specs.Told.{filled};
-ghost use Rattle.mallethill.specs.Numbers.{row, row_of, counted};
+ghost use Rattle.mallethill.specs.Told.{buffer_with};
+ghost use Rattle.mallethill.specs.Numbers.{row, row_of, numbers_read};
 
 use crate::fault::Fault;
 use crate::section::open;
@@ -26,8 +26,9 @@ pub extern "C" fn mallethill_uleb128(
     answer: &mut NumbersRead,
 ) -> Fault
     ensures fault { result ≡ (row_of bytes.now (length numbers.old)).ended }
-    ensures answer { answer.new ≡ counted (row_of bytes.now (length numbers.old)) }
-    ensures numbers { numbers.new ≡ filled numbers.old (row_of bytes.now (length numbers.old)).items }
+    ensures answer { answer.new ≡ numbers_read (row_of bytes.now (length numbers.old)) }
+    ensures numbers { numbers.new
+        ≡ buffer_with numbers.old (row_of bytes.now (length numbers.old)).items }
 {
     // LEB128 is read byte by byte, so that either order will do
     let (read, fault) = read_row(open(bytes, false), numbers);
@@ -37,9 +38,10 @@ pub extern "C" fn mallethill_uleb128(
 
 // The same from any reader, whose ids count the bytes.
 fn read_row<R: Reader>(mut reader: R, numbers: &mut [u64]) -> (NumbersRead, Fault)
-    ensures fault { result.1 ≡ (row (length numbers.old) (R.Reader.means reader)).ended }
-    ensures answer { result.0 ≡ counted (row (length numbers.old) (R.Reader.means reader)) }
-    ensures numbers { numbers.new ≡ filled numbers.old (row (length numbers.old) (R.Reader.means reader)).items }
+    ensures fault { result.1 ≡ (row (length numbers.old) (R.means reader)).ended }
+    ensures answer { result.0 ≡ numbers_read (row (length numbers.old) (R.means reader)) }
+    ensures numbers { numbers.new
+        ≡ buffer_with numbers.old (row (length numbers.old) (R.means reader)).items }
 {
     let mut count = 0usize;
     while count < numbers.len() {

@@ -2,7 +2,7 @@
 use Rattle.std.proofs.Common.{◌≡◌, ℕ, zero, suc, ◌+◌, ◌-◌, ◌*◌, ◌≤◌, Bool, true, false, cond, leb, List, [], ◌∷◌, ◌++◌, reverse, length, get_or, take, drop, Ok, sym, refl, ap, ◌∙◌, arith, length-append, length-drop, length-take, le-leb, leb-true}
 use Rattle.std.proofs.lemmas.List.{length-reverse}
 use Rattle.readers.specs.Outcome.{answer}
-use Rattle.readers.specs.Reading.{Meaning, Step, little, spelt, past, gives, refuses, fixed, copied}
+use Rattle.readers.specs.Reading.{Meaning, Step, little, spelt_number, past, gives, refuses, fixed_number, copy_step}
 use Rattle.readers.specs.Links.{Did}
 use Rattle.numbers.specs.Numbers.{uint}
 
@@ -35,7 +35,7 @@ little_drop (suc n) (x ∷ xs) e = little_drop n xs (omega arith)
 abbrev pub zeros : List ℕ
 zeros = 0 ∷ 0 ∷ 0 ∷ 0 ∷ 0 ∷ 0 ∷ 0 ∷ 0 ∷ []
 
-little_order : (big : Bool) (bs : List ℕ) → little (cond big (reverse bs) bs) ≡ spelt big bs
+little_order : (big : Bool) (bs : List ℕ) → little (cond big (reverse bs) bs) ≡ spelt_number big bs
 little_order true bs = refl
 little_order false bs = refl
 
@@ -49,10 +49,10 @@ copied_by : (b : Bool) (n : ℕ) (m after : Meaning) (held : List ℕ) (s : Step
 copied_by true n m after held s t d e f = record { room = sym t; held_is = cc; after_is = cc }
 copied_by false n m after held s t d e f = let z : ◌≡◌ {A = ℕ} 0 1 = cc in let no : ⊥ = omega arith in absurd no
 
-pub copied_is : (n k : ℕ) (m after : Meaning) (held : List ℕ) → k ≡ n → answer held ≡ (copied k m).outcome → after ≡ (copied k m).after → Copied n m after held
+pub copied_is : (n k : ℕ) (m after : Meaning) (held : List ℕ) → k ≡ n → answer held ≡ (copy_step k m).outcome → after ≡ (copy_step k m).after → Copied n m after held
 copied_is n k m after held d e f =
-    let s : copied k m ≡ copied n m = ap (λ i. copied i m) d in
-    copied_by (leb n (length m.rest)) n m after held (copied n m) refl refl (e ∙ ap (λ t. t.outcome) s) (f ∙ ap (λ t. t.after) s)
+    let s : copy_step k m ≡ copy_step n m = ap (λ i. copy_step i m) d in
+    copied_by (leb n (length m.rest)) n m after held (copy_step n m) refl refl (e ∙ ap (λ t. t.outcome) s) (f ∙ ap (λ t. t.after) s)
 
 length_order : (big : Bool) (bs : List ℕ) → length (cond big (reverse bs) bs) ≡ length bs
 length_order true bs = length-reverse bs
@@ -68,10 +68,10 @@ uint_read n v m after held low bytes h d e f w =
     let value : v ≡ little low =
     w ∙ sum8_little bytes long ∙ ap little f ∙ little_end low (drop (n - 0) zeros) (little_drop (n - 0) zeros refl)
     in
-    let spells : little low ≡ spelt m.big (take n m.rest) = ap little e ∙ little_order m.big held ∙ ap (spelt m.big) d.held_is in
-    let steps : uint n m ≡ gives (spelt m.big (take n m.rest)) (past n m) =
-    ap (λ b. cond b (fixed n m) (refuses 14 n m)) (le-leb n 8 h)
-    ∙ ap (λ b. cond b (gives (spelt m.big (take n m.rest)) (past n m)) (refuses 1 m.id m)) d.room
+    let spells : little low ≡ spelt_number m.big (take n m.rest) = ap little e ∙ little_order m.big held ∙ ap (spelt_number m.big) d.held_is in
+    let steps : uint n m ≡ gives (spelt_number m.big (take n m.rest)) (past n m) =
+    ap (λ b. cond b (fixed_number n m) (refuses 14 n m)) (le-leb n 8 h)
+    ∙ ap (λ b. cond b (gives (spelt_number m.big (take n m.rest)) (past n m)) (refuses 1 m.id m)) d.room
     in
     record {
       answers = ap answer (value ∙ spells) ∙ sym (ap (λ s. s.outcome) steps);

@@ -1,7 +1,7 @@
 // Addresses of 1, 2, 4 or 8 bytes: their largest values, and sums that stay among them.
 ghost use Rattle.std.specs.Prelude.{◌≡◌};
 ghost use Rattle.readers.specs.Links.{outcome_is};
-ghost use Rattle.numbers.specs.Numbers.{ones, tombstone, added};
+ghost use Rattle.numbers.specs.Numbers.{ones, tombstone, address_sum};
 
 use readers::Error;
 
@@ -27,7 +27,7 @@ pub fn min_tombstone(size: u8) -> Result<u64, Error>
 
 /// An address plus a length, which must be an address of the size too.
 pub fn add_sized(address: u64, length: u64, size: u8) -> Result<u64, Error>
-    ensures { outcome_is (λ x. x) result ≡ added address length size }
+    ensures { outcome_is (λ x. x) result ≡ address_sum address length size }
 {
     let ones = ones_sized(size)?;
     let end = address.checked_add(length).filter(|end| *end <= ones);

@@ -1,9 +1,9 @@
 // rangewalk: answers the commands on standard input over the section that stands before them.
 #![tactic(auto)]
 
-use driver::{MAX_INPUT, transcript};
 use std::io;
 use std::io::Read;
+use transcript::{MAX_INPUT, transcript};
 
 fn main(rt: HostRuntime) -> io::Result<()> {
     let heap = rt.alloc();

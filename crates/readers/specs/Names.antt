@@ -5,9 +5,10 @@ use Rattle.readers.specs.Outcome.{Fault}
 -- the names of the faults, in the order of their numbers, which begin with 1
 abbrev pub fault_names : List (List ℕ)
 fault_names =
-    codes "UnexpectedEof" ∷ codes "UnknownReservedLength" ∷ codes "UnknownVersion" ∷ codes "UnsupportedAddressSize"
-    ∷ codes "UnsupportedSegmentSize" ∷ codes "UnsupportedOffset" ∷ codes "UnsupportedOffsetSize" ∷ codes "BadUnsignedLeb128"
-    ∷ codes "BadSignedLeb128" ∷ codes "AddressOverflow" ∷ codes "SectionTooLong" ∷ codes "NothingOpen"
+    codes "UnexpectedEof" ∷ codes "UnknownReservedLength" ∷ codes "UnknownVersion"
+    ∷ codes "UnsupportedAddressSize" ∷ codes "UnsupportedSegmentSize" ∷ codes "UnsupportedOffset"
+    ∷ codes "UnsupportedOffsetSize" ∷ codes "BadUnsignedLeb128" ∷ codes "BadSignedLeb128"
+    ∷ codes "AddressOverflow" ∷ codes "SectionTooLong" ∷ codes "NothingOpen"
     ∷ codes "RelocationRefused" ∷ codes "BadLength" ∷ []
 
 -- the name of the fault with a number, 1 to 14

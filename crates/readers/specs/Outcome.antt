@@ -12,9 +12,9 @@ pub data Outcome (A : Type 0) : Type 0 where
   fault : Fault → Outcome A
 
 -- the fault with a number and a payload
-abbrev pub numbered : ℕ → ℕ → Fault
-numbered n p = record { number = n; payload = p }
+abbrev pub fault_by : ℕ → ℕ → Fault
+fault_by n p = record { number = n; payload = p }
 
 -- the same as an outcome
 abbrev pub fault_of : {A : Type 0} → ℕ → ℕ → Outcome A
-fault_of n p = fault (numbered n p)
+fault_of n p = fault (fault_by n p)

@@ -1,7 +1,7 @@
 // What the sections of DWARF share: formats, encodings, and offsets into a section.
 ghost use Rattle.std.specs.Prelude.{◌≡◌};
 ghost use Rattle.readers.specs.Reading.{length_size};
-ghost use Rattle.readers.specs.Links.{word_of};
+ghost use Rattle.readers.specs.Links.{format_word};
 
 /// Whether the format of a unit is 32- or 64-bit.
 #[derive(Clone, Copy, PartialEq, Eq, Debug)]
@@ -10,11 +10,10 @@ pub enum Format {
     Dwarf32,
 }
 
-// Two matches, as gimli has two methods.
 impl Format {
     /// How many bytes an initial length takes.
     pub fn initial_length_size(self) -> u8
-        ensures { result ≡ length_size (word_of self) }
+        ensures { result ≡ length_size (format_word self) }
     {
         match self {
             Format::Dwarf32 => 4,
@@ -24,7 +23,7 @@ impl Format {
 
     /// How many bytes an offset or a length takes.
     pub fn word_size(self) -> u8
-        ensures { result ≡ word_of self }
+        ensures { result ≡ format_word self }
     {
         match self {
             Format::Dwarf32 => 4,
@@ -33,7 +32,6 @@ impl Format {
     }
 }
 
-// The sizes are numbers, as in gimli: a caller may name any, and it is a read that refuses one.
 /// What the numbers of a unit or a set are read by.
 #[derive(Clone, Copy)]
 pub struct Encoding {
@@ -42,7 +40,6 @@ pub struct Encoding {
     pub version: u16,
 }
 
-// Two types, as in gimli, so that the places of two sections are never mixed.
 /// An offset into `.debug_aranges`.
 #[derive(Clone, Copy)]
 pub struct DebugArangesOffset<T>(pub T);

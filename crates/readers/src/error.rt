@@ -40,7 +40,6 @@ pub enum Error {
 }
 
 impl Error {
-    // By hand: a derived Debug promises nothing of what it writes.
     /// The fault's name, as output lines write it.
     pub fn name(self) -> &'static str
         ensures { result.now ≡ name_of (fault_is self).number }
@@ -63,7 +62,6 @@ impl Error {
         }
     }
 
-    // 0 and no None: an output line has a number for every fault.
     /// What the fault tells beside its name, 0 where that is nothing.
     pub fn payload(self) -> u64
         ensures { result ≡ (fault_is self).payload }

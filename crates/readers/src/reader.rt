@@ -1,8 +1,8 @@
 // What a reader is: its offsets, its meaning, and what each call answers and leaves.
 ghost use Rattle.std.specs.Prelude.{◌≡◌, ℕ, ◌^◌, ◌≤◌, length, take, option_map, IfSome};
 ghost use Rattle.readers.specs.Outcome.{Outcome};
-ghost use Rattle.readers.specs.Reading.{Meaning, emptied, skipped, truncated, split_off, copied, position, distance, distance_within, fitting, address, offset, sized_offset};
-ghost use Rattle.readers.specs.Links.{Did, Filled, is_big, outcome_is, word_of};
+ghost use Rattle.readers.specs.Reading.{Meaning, no_bytes, skip_step, truncate_step, split_step, copy_step, position, distance, distance_within, offset_number, address, offset, sized_offset};
+ghost use Rattle.readers.specs.Links.{Did, Filled, is_big, outcome_is, format_word};
 
 use crate::common::Format;
 use crate::endianity::RunTimeEndian;
@@ -31,13 +31,12 @@ pub trait ReaderOffset: Copy {
 
     /// Refuses with `UnsupportedOffset` where the number does not fit.
     fn from_u64(offset: u64) -> Result<Self, Error>
-        ensures { outcome_is number result ≡ fitting limit offset };
+        ensures { outcome_is number result ≡ offset_number limit offset };
 
     fn into_u64(self) -> u64
         ensures { result ≡ number self };
 }
 
-// An impl for each type, as in gimli: each has its own limit, and std has a From for some of the casts only.
 impl ReaderOffset for u32 {
     ghost number = { λ x. x };
 
@@ -105,69 +104,78 @@ pub trait Reader: Sized + Drop {
 
     /// How many bytes are left.
     fn len(&self) -> Self::Offset
-        ensures { Self.Offset.ReaderOffset.number result ≡ length (means self.now).rest };
+        ensures { Self.Offset.number result ≡ length (means self.now).rest };
 
     /// The id of the next byte.
     fn offset_id(&self) -> ReaderOffsetId
         ensures { result.0 ≡ (means self.now).id };
 
-    // Not std's Clone, whose clone may find no memory: this one never fails, and says what it answers.
-    /// A second reader of equal meaning.
+    /// A second reader of equal meaning; it takes no memory, and never fails.
     fn clone(&self) -> Self
         ensures { means result ≡ means self.now };
 
     /// Leaves no bytes, and keeps the id.
     fn empty(&mut self)
-        ensures { means self.new ≡ emptied (means self.old) };
+        ensures { means self.new ≡ no_bytes (means self.old) };
 
     /// Keeps only the next `len` bytes.
     fn truncate(&mut self, len: Self::Offset) -> Result<(), Error>
-        ensures { Did (λ x. x) result (means self.new) (truncated (Self.Offset.ReaderOffset.number len) (means self.old)) };
+        ensures { Did (λ x. x) result (means self.new)
+            (truncate_step (Self.Offset.number len) (means self.old)) };
 
     /// Moves past the next `len` bytes.
     fn skip(&mut self, len: Self::Offset) -> Result<(), Error>
-        ensures { Did (λ x. x) result (means self.new) (skipped (Self.Offset.ReaderOffset.number len) (means self.old)) };
+        ensures { Did (λ x. x) result (means self.new)
+            (skip_step (Self.Offset.number len) (means self.old)) };
 
     /// Moves past the next `len` bytes, and answers them as a reader of their own.
     fn split(&mut self, len: Self::Offset) -> Result<Self, Error>
-        ensures { Did means result (means self.new) (split_off (Self.Offset.ReaderOffset.number len) (means self.old)) };
+        ensures { Did means result (means self.new)
+            (split_step (Self.Offset.number len) (means self.old)) };
 
     /// Moves past as many bytes as `buf` has, and copies them there.
     fn read_slice(&mut self, buf: &mut [u8]) -> Result<(), Error>
-        ensures { Filled result buf.old buf.new (means self.new) (copied (length buf.old) (means self.old)) };
+        ensures { Filled result (buf.old, buf.new) (means self.new)
+            (copy_step (length buf.old) (means self.old)) };
 
-    // A reference and a fixed number, so that a read tests once that the bytes are there, and then none of them.
-    /// The next ten bytes, where the reader has them side by side in memory. It may answer None however many are left.
+    /// The next ten bytes, where the reader has them side by side in memory, so that a read tests
+    /// once that they are there. It may answer None however many are left.
     fn next_ten(&self) -> Option<&[u8; 10]>
-        ensures { IfSome result (λ bytes. (10 ≤ length (means self.now).rest) × (bytes.now ≡ take 10 (means self.now).rest)) }
+        ensures { IfSome result
+            (λ bytes. (10 ≤ length (means self.now).rest)
+            × (bytes.now ≡ take 10 (means self.now).rest)) }
     {
         None
     }
 
     /// The number of bytes in front of the first `byte`.
     fn find(&self, byte: u8) -> Result<Self::Offset, Error>
-        ensures { outcome_is Self.Offset.ReaderOffset.number result ≡ position byte (means self.now) };
+        ensures { outcome_is Self.Offset.number result ≡ position byte (means self.now) };
 
     /// The distance of an id from the next byte's, if the id is one of this reader's.
     fn lookup_offset_id(&self, id: ReaderOffsetId) -> Option<Self::Offset>
-        ensures { option_map Self.Offset.ReaderOffset.number result ≡ distance (means self.now) id.0 };
+        ensures { option_map Self.Offset.number result ≡ distance (means self.now) id.0 };
 
     /// The distance from the start of `base`, if this reader's bytes lie within those of `base`.
     fn offset_from(&self, base: &Self) -> Option<Self::Offset>
-        ensures { option_map Self.Offset.ReaderOffset.number result ≡ distance_within (means self.now) (means base.now) };
+        ensures { option_map Self.Offset.number result
+            ≡ distance_within (means self.now) (means base.now) };
 }
 
 /// Reads of addresses and offsets, which relocation may change.
 pub trait AddressReader: Reader {
     /// An address of 1, 2, 4 or 8 bytes.
     fn read_address(&mut self, address_size: u8) -> Result<u64, Error>
-        ensures { Did (λ x. x) result (Self.Reader.means self.new) (address address_size (Self.Reader.means self.old)) };
+        ensures { Did (λ x. x) result (Self.means self.new)
+            (address address_size (Self.means self.old)) };
 
     /// An offset of the format's width.
     fn read_offset(&mut self, format: Format) -> Result<Self::Offset, Error>
-        ensures { Did Self.Offset.ReaderOffset.number result (Self.Reader.means self.new) (offset Self.Offset.ReaderOffset.limit (word_of format) (Self.Reader.means self.old)) };
+        ensures { Did Self.Offset.number result (Self.means self.new)
+            (offset Self.Offset.limit (format_word format) (Self.means self.old)) };
 
     /// An offset of 1, 2, 4 or 8 bytes.
     fn read_sized_offset(&mut self, size: u8) -> Result<Self::Offset, Error>
-        ensures { Did Self.Offset.ReaderOffset.number result (Self.Reader.means self.new) (sized_offset Self.Offset.ReaderOffset.limit size (Self.Reader.means self.old)) };
+        ensures { Did Self.Offset.number result (Self.means self.new)
+            (sized_offset Self.Offset.limit size (Self.means self.old)) };
 }

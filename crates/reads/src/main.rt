@@ -137,7 +137,6 @@ fn relocated_read(text: &str) -> Option<Request<'_>> {
     Some(Request::ReadRelocated(section, layers, call_of(words.next()?)?))
 }
 
-// No FromStr for the kind and the order: whatever is not 0 is 1, so that nothing is refused.
 impl<'a> Section<'a> {
     fn new(kind: &str, order: &str, digits: &'a str) -> Section<'a> {
         Section {
@@ -157,7 +156,7 @@ impl<'a> Section<'a> {
     fn read(
         &self,
         bytes: &[u8],
-        tables: Option<Layers<&[Relocation]>>,
+        tables: Option<Layers<&RelocationTable>>,
         call: ReadCall,
     ) -> Result<Reading, Error> {
         match self.kind {
@@ -175,7 +174,6 @@ fn call_of(text: &str) -> Option<ReadCall> {
     }
 }
 
-// No FromStr, here and below: there is no error to name.
 // The call of a name that takes no argument.
 fn call_without(name: &str) -> Option<ReadCall> {
     Some(match name {
@@ -215,7 +213,6 @@ fn call_with(name: &str, number: u64) -> Option<ReadCall> {
     })
 }
 
-// No TryFrom: Format is another crate's, as is u64.
 // The format whose words have so many bytes.
 fn format_of(word_size: u64) -> Option<Format> {
     match word_size {
@@ -236,11 +233,9 @@ fn answer(heap: Global, line: &str) -> Result<String, AllocError> {
         }
         Some(Request::ReadRelocated(section, layers, call)) => {
             let bytes = decode(heap, section.digits.as_bytes())?;
-            let first = records_of(heap, layers.first)?;
-            let second = records_of(heap, layers.second)?;
             let tables = Layers {
-                first: first.as_slice(),
-                second: second.as_slice(),
+                first: &table_of(heap, layers.first)?,
+                second: &table_of(heap, layers.second)?,
                 skipped: layers.skipped,
             };
             reading_text(heap, section.read(&bytes, Some(tables), call))
@@ -257,12 +252,11 @@ fn reading_text(heap: Global, reading: Result<Reading, Error>) -> Result<String,
     }
 }
 
-// The records of a table: `OFFSET,KIND,AMOUNT`, parted by semicolons, or `-` for none. What is no record is left out.
-fn records_of(heap: Global, text: &str) -> Result<Vec<Relocation>, AllocError> {
-    text.split(';').filter_map(record_of).collect(heap)
+// The table of some records: `OFFSET,KIND,AMOUNT`, parted by semicolons, or `-` for none. What is no record is left out.
+fn table_of(heap: Global, text: &str) -> Result<RelocationTable, AllocError> {
+    RelocationTable::new(text.split(';').filter_map(record_of).collect(heap)?)
 }
 
-// No FromStr: Relocation is another crate's, and there is no error to name.
 fn record_of(text: &str) -> Option<Relocation> {
     let mut numbers = text.split(',');
     Some(Relocation {
@@ -275,18 +269,15 @@ fn record_of(text: &str) -> Option<Relocation> {
 // Makes a call on a reader, or under two tables behind the bytes that are skipped under the first.
 fn read_under<R: AddressReader>(
     reader: R,
-    tables: Option<Layers<&[Relocation]>>,
+    tables: Option<Layers<&RelocationTable>>,
     call: ReadCall,
 ) -> Result<Reading, Error> {
     let Some(tables) = tables else {
         return Ok(read(reader, call));
     };
-    let mut below = RelocateReader::new(reader, RelocationTable::new(tables.first));
+    let mut below = RelocateReader::new(reader, tables.first);
     skip(&mut below, tables.skipped)?;
-    Ok(read(
-        RelocateReader::new(below, RelocationTable::new(tables.second)),
-        call,
-    ))
+    Ok(read(RelocateReader::new(below, tables.second), call))
 }
 
 // Makes a call on a reader, and sees how many bytes are left.
@@ -298,7 +289,6 @@ fn read<R: AddressReader>(mut reader: R, call: ReadCall) -> Reading {
     }
 }
 
-// A match and no closures: a call is a value, read from a line.
 // Makes a call on a reader.
 fn perform<R: AddressReader>(reader: &mut R, call: ReadCall) -> Result<Values, Error> {
     Ok(match call {

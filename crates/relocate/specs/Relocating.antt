@@ -1,41 +1,57 @@
--- What relocation means: the table of records, and a layer of it over a reader.
-use Rattle.std.specs.Prelude.{ℕ, ◌+◌, ◌-◌, ◌%◌, ◌^◌, cond, List, [], ◌∷◌, ◌==◌}
+-- What relocation means: a record, a table of records, a policy, and a layer of it over a reader.
+use Rattle.std.specs.Prelude.{ℕ, ◌+◌, ◌-◌, ◌%◌, ◌^◌, List, Option, Some, None, option_map, find, ◌==◌, if◌then◌else◌}
 use Rattle.readers.specs.Outcome.{Outcome, answer, fault, fault_of}
-use Rattle.readers.specs.Reading.{Meaning, fitting}
-use Rattle.relocate.specs.declared.policy.Relocation.{Relocation}
-use Rattle.relocate.specs.declared.policy.RelocationKind.{RelocationKind}
-use Rattle.relocate.specs.declared.policy.RelocationKind.TheVariants.{Add, Replace, Unknown}
+use Rattle.readers.specs.Reading.{Meaning, offset_number}
+use Rattle.relocate.specs.declared.record.Relocation.{Relocation}
+use Rattle.relocate.specs.declared.record.RelocationKind.{RelocationKind}
+use Rattle.relocate.specs.declared.record.RelocationKind.TheVariants.{Add, Replace, Unknown}
 
 -- the kind that a number stands for
 abbrev pub kind_of : ℕ → RelocationKind
-kind_of k = cond (k == 0) Add (cond (k == 1) Replace Unknown)
+kind_of k = if k == 0 then Add else if k == 1 then Replace else Unknown
 
--- what a kind and its amount make of a value that was read at an offset
-abbrev pub by_kind : RelocationKind → ℕ → ℕ → ℕ → Outcome ℕ
-by_kind Add a o v = answer ((v + a) % 2 ^ 64)
-by_kind Replace a o v = answer a
-by_kind Unknown a o v = fault_of 13 o
+-- what a relocation makes of the value at its offset, by its kind
+abbrev pub by_kind : RelocationKind → Relocation → ℕ → Outcome ℕ
+by_kind Add r v = answer ((v + r.amount) % 2 ^ 64)
+by_kind Replace r v = answer r.amount
+by_kind Unknown r v = fault_of 13 r.offset
 
--- what one record makes of a value that was read at its offset
-abbrev pub by_record : Relocation → ℕ → ℕ → Outcome ℕ
-by_record r = by_kind r.kind r.amount
+-- the same where there may be none, so that the value stays
+abbrev pub by_relocation : Option Relocation → ℕ → Outcome ℕ
+by_relocation (Some r) v = by_kind r.kind r v
+by_relocation None v = answer v
 
--- what a table makes of a value: the earliest record with its offset decides, and where there is none the value stays
-abbrev pub by_table : List Relocation → ℕ → ℕ → Outcome ℕ
-by_table [] o v = answer v
-by_table (r ∷ rs) o v = cond (r.offset == o) (by_record r o v) (by_table rs o v)
+-- the record that counts at an offset: the first of those whose relocation is there
+abbrev pub record_at : {T : Type 0} → (T → Relocation) → List T → ℕ → Option T
+record_at relocation rs o = find (λ r. (relocation r).offset == o) rs
 
--- one outcome after another
-abbrev pub and_then : Outcome ℕ → (ℕ → Outcome ℕ) → Outcome ℕ
-and_then (answer x) f = f x
-and_then (fault e) f = fault e
+-- what the records make of the value at an offset
+abbrev pub by_table : {T : Type 0} → (T → Relocation) → List T → ℕ → ℕ → Outcome ℕ
+by_table relocation rs o v = by_relocation (option_map relocation (record_at relocation rs o)) v
 
--- a reader's relocation followed by a policy's, whose offsets count from the id `start`; an offset has to fit again
-abbrev pub layered : ℕ → (ℕ → ℕ → Outcome ℕ) → (ℕ → ℕ → Outcome ℕ) → ℕ → Meaning → Meaning
-layered limit addresses offsets start m = record {
+-- what becomes of an address and of an offset that were read at an offset of a section
+pub record Policy : Type 0 where
+  pub address : ℕ → ℕ → Outcome ℕ
+  pub offset : ℕ → ℕ → Outcome ℕ
+
+-- the policy that treats addresses and offsets alike
+abbrev pub uniform_policy : (ℕ → ℕ → Outcome ℕ) → Policy
+uniform_policy f = record { address = f; offset = f }
+
+-- one outcome after another, up to the first fault
+abbrev pub outcome_then : Outcome ℕ → (ℕ → Outcome ℕ) → Outcome ℕ
+outcome_then (answer x) f = f x
+outcome_then (fault e) f = fault e
+
+-- a reader's relocation followed by a policy's, whose offsets count from the id `start`;
+-- an offset has to fit again
+abbrev pub layer : ℕ → Policy → ℕ → Meaning → Meaning
+layer limit policy start m = record {
   id = m.id;
   rest = m.rest;
   big = m.big;
-  address = λ i v. and_then (m.address i v) (addresses (i - start));
-  offset = λ i v. and_then (m.offset i v) (λ x. and_then (offsets (i - start) x) (fitting limit));
+  address = λ i v. outcome_then (m.address i v) (policy.address (i - start));
+  offset = λ i v.
+      outcome_then (m.offset i v)
+      (λ x. outcome_then (policy.offset (i - start) x) (offset_number limit));
 }

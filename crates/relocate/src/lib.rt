@@ -1,8 +1,12 @@
 // Relocation: what becomes of the addresses and offsets that are read from an unlinked section.
 #![tactic(auto)]
 
-mod policy;
+mod no_relocation;
+mod record;
 mod relocate;
+mod table;
 
-pub use policy::{NoRelocation, Relocation, RelocationKind, RelocationTable};
+pub use no_relocation::NoRelocation;
+pub use record::{Record, Relocation, RelocationKind};
 pub use relocate::{Relocate, RelocateReader};
+pub use table::RelocationTable;

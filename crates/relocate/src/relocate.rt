@@ -1,26 +1,20 @@
-// The trait of relocation policies, and the reader that asks one about each address and offset that it reads.
-ghost use Rattle.std.specs.Prelude.{◌≡◌, ℕ, ◌-◌};
-ghost use Rattle.readers.specs.Outcome.{Outcome};
-ghost use Rattle.readers.specs.Reading.{Meaning, fitting};
+// The trait of relocation policies, and the reader that asks one about what it reads.
+ghost use Rattle.std.specs.Prelude.{◌≡◌, ◌-◌};
+ghost use Rattle.readers.specs.Reading.{offset_number};
 ghost use Rattle.readers.specs.Links.{outcome_is};
-ghost use Rattle.relocate.specs.Relocating.{layered, and_then};
+ghost use Rattle.relocate.specs.Relocating.{Policy, layer, outcome_then};
 
 use readers::{AddressReader, Error, Format, Reader, ReaderOffset, ReaderOffsetId, RunTimeEndian};
 
-// An offset and a value each time, as in gimli.
 /// What becomes of an address or an offset that was read at an offset of a section.
 pub trait Relocate: Copy {
-    // from an offset and the address there to an address or a fault
-    ghost addresses: { Self → ℕ → ℕ → Outcome ℕ };
-
-    // the same of an offset read
-    ghost offsets: { Self → ℕ → ℕ → Outcome ℕ };
+    ghost policy: { Self → Policy };
 
     fn relocate_address(&self, offset: u64, value: u64) -> Result<u64, Error>
-        ensures { outcome_is (λ x. x) result ≡ addresses self.now offset value };
+        ensures { outcome_is (λ x. x) result ≡ (policy self.now).address offset value };
 
     fn relocate_offset(&self, offset: u64, value: u64) -> Result<u64, Error>
-        ensures { outcome_is (λ x. x) result ≡ offsets self.now offset value };
+        ensures { outcome_is (λ x. x) result ≡ (policy self.now).offset offset value };
 }
 
 /// A reader whose addresses and offsets are relocated.
@@ -35,7 +29,8 @@ pub struct RelocateReader<R: Reader, T: Relocate> {
 impl<R: Reader, T: Relocate> RelocateReader<R, T> {
     /// A layer over a reader, whose offsets count from where the reader is.
     pub fn new(reader: R, relocate: T) -> RelocateReader<R, T>
-        ensures { layered R.Offset.ReaderOffset.limit (T.Relocate.addresses result.relocate) (T.Relocate.offsets result.relocate) result.start (R.Reader.means result.reader) ≡ layered R.Offset.ReaderOffset.limit (T.Relocate.addresses relocate) (T.Relocate.offsets relocate) (R.Reader.means reader).id (R.Reader.means reader) }
+        ensures { ⟦<RelocateReader<R, T> as Reader>⟧.means result
+            ≡ layer R.Offset.limit (T.policy relocate) (R.means reader).id (R.means reader) }
     {
         let start = reader.offset_id().0;
         RelocateReader {
@@ -54,7 +49,7 @@ impl<R: Reader, T: Relocate> RelocateReader<R, T> {
 
     // how far the reader is from where the layer was made
     fn offset(&self) -> u64
-        ensures { result ≡ (R.Reader.means self.now.reader).id - self.now.start }
+        ensures { result ≡ (R.means self.now.reader).id - self.now.start }
     {
         let id = self.reader.offset_id().0;
         id.saturating_sub(self.start)
@@ -62,7 +57,10 @@ impl<R: Reader, T: Relocate> RelocateReader<R, T> {
 
     // what the policy makes of an offset that was read there, if it fits again
     fn relocate_offset(&self, offset: u64, value: R::Offset) -> Result<R::Offset, Error>
-        ensures { outcome_is R.Offset.ReaderOffset.number result ≡ and_then (T.Relocate.offsets self.now.relocate offset (R.Offset.ReaderOffset.number value)) (fitting R.Offset.ReaderOffset.limit) }
+        ensures { outcome_is R.Offset.number result
+            ≡ outcome_then
+            ((T.policy self.now.relocate).offset offset (R.Offset.number value))
+            (offset_number R.Offset.limit) }
     {
         let moved = self.relocate.relocate_offset(offset, value.into_u64())?;
         R::Offset::from_u64(moved)
@@ -72,7 +70,7 @@ impl<R: Reader, T: Relocate> RelocateReader<R, T> {
 impl<R: Reader, T: Relocate> Reader for RelocateReader<R, T> {
     type Offset = R::Offset;
 
-    ghost means = { λ s. layered R.Offset.ReaderOffset.limit (T.Relocate.addresses s.relocate) (T.Relocate.offsets s.relocate) s.start (R.Reader.means s.reader) };
+    ghost means = { λ s. layer R.Offset.limit (T.policy s.relocate) s.start (R.means s.reader) };
 
     fn endian(&self) -> RunTimeEndian {
         self.reader.endian()
@@ -86,7 +84,6 @@ impl<R: Reader, T: Relocate> Reader for RelocateReader<R, T> {
         self.reader.offset_id()
     }
 
-    // by hand: a second reader of equal meaning is a promise of the trait Reader, which Clone does not make
     fn clone(&self) -> Self {
         RelocateReader {
             reader: self.reader.clone(),
@@ -137,23 +134,22 @@ impl<R: Reader, T: Relocate> Reader for RelocateReader<R, T> {
     }
 }
 
-// Three reads that differ in the call below: one function over that call, as a closure, would need a contract of the closure.
 impl<R: AddressReader, T: Relocate> AddressReader for RelocateReader<R, T> {
-    #[tactic(auto, using(crate::proofs::Layers::address_layered))]
+    #[tactic(auto, using(crate::proofs::Layers::address_layer))]
     fn read_address(&mut self, address_size: u8) -> Result<u64, Error> {
         let offset = self.offset();
         let value = self.reader.read_address(address_size)?;
         self.relocate.relocate_address(offset, value)
     }
 
-    #[tactic(auto, using(crate::proofs::Layers::offset_layered))]
+    #[tactic(auto, using(crate::proofs::Layers::offset_layer))]
     fn read_offset(&mut self, format: Format) -> Result<R::Offset, Error> {
         let offset = self.offset();
         let value = self.reader.read_offset(format)?;
         self.relocate_offset(offset, value)
     }
 
-    #[tactic(auto, using(crate::proofs::Layers::sized_offset_layered))]
+    #[tactic(auto, using(crate::proofs::Layers::sized_offset_layer))]
     fn read_sized_offset(&mut self, size: u8) -> Result<R::Offset, Error> {
         let offset = self.offset();
         let value = self.reader.read_sized_offset(size)?;

@@ -2,10 +2,10 @@
 // rangewalk would write for it is written, and then a line with `=`.
 #![tactic(auto)]
 
-use driver::transcript;
 use hex_digits::decode;
 use std::io;
 use std::io::{BufRead, BufReader};
+use transcript::transcript;
 
 fn main(rt: HostRuntime) -> io::Result<()> {
     let heap = rt.alloc();

@@ -1,8 +1,8 @@
 // A reader of a section in memory, whatever the width of its offsets.
 ghost use Rattle.std.specs.Prelude.{◌≡◌, ℕ, ◌+◌, ◌^◌, ◌<◌, ◌≤◌, ◌&&◌, length, nat_le, nat_lt, IfOk, ⊤};
 ghost use Rattle.readers.specs.Links.{Did, Filled, outcome_is, is_big};
-ghost use Rattle.readers.specs.Sections.{part, opened, highest};
-ghost use Rattle.readers.specs.Reading.{emptied, skipped, truncated, split_off, copied};
+ghost use Rattle.readers.specs.Sections.{part, section_opening, highest_id};
+ghost use Rattle.readers.specs.Reading.{no_bytes, skip_step, truncate_step, split_step, copy_step};
 
 use numbers::{read_plain_address, read_plain_sized_offset, read_word};
 use readers::{AddressReader, Error, Format, Reader, ReaderOffset, ReaderOffsetId, RunTimeEndian};
@@ -23,10 +23,9 @@ pub struct SectionReader<'a, O: ReaderOffset> {
     ghost within: { first + len ≤ length section.now },
     // each place has an id, and the number of bytes left is an offset
     ghost named: { base + length section.now < 2 ^ 64 },
-    ghost told: { len < O.ReaderOffset.limit },
+    ghost told: { len < O.limit },
 }
 
-// By hand: over a ghost field none is derived where the struct has a type parameter.
 impl<O: ReaderOffset> Clone for SectionReader<'_, O> {
     ghost is_clone = { λ x y. y ≡ x };
 
@@ -48,11 +47,14 @@ impl<'a, O: ReaderOffset> SectionReader<'a, O> {
         base: u64,
         endian: RunTimeEndian,
     ) -> Result<SectionReader<'a, O>, Error>
-        ensures opens { outcome_is section_means result ≡ opened (nat_le (base + length section.now) highest && nat_lt (length section.now) O.ReaderOffset.limit) base section.now (is_big endian) }
-        ensures whole { IfOk result (λ s. (s.section.now ≡ section.now) × (s.first ≡ 0) × (s.len ≡ length section.now)) }
+        ensures opens { outcome_is section_means result
+            ≡ section_opening
+            (nat_le (base + length section.now) highest_id && nat_lt (length section.now) O.limit)
+            base section.now (is_big endian) }
+        ensures whole { IfOk result
+            (λ s. (s.section.now ≡ section.now) × (s.first ≡ 0) × (s.len ≡ length section.now)) }
     {
         let len = section.len();
-        // one refusal for both, in place of a `map_err` and an `ok_or` with the same fault
         if O::from_u64(len as u64).is_err() || len as u64 > u64::MAX - base {
             return Err(Error::SectionTooLong);
         }
@@ -83,7 +85,8 @@ impl<'a, O: ReaderOffset> SectionReader<'a, O> {
 
     // moves past the next `len` bytes, and answers them
     fn take(&mut self, len: usize) -> Result<&'a [u8], Error>
-        ensures did { Did (λ x. x.now) result (section_means self.new) (copied len (section_means self.old)) }
+        ensures did { Did (λ x. x.now) result (section_means self.new)
+            (copy_step len (section_means self.old)) }
         ensures kept { Kept self.new self.old }
     {
         if len > self.len {
@@ -121,14 +124,15 @@ impl<O: ReaderOffset> Reader for SectionReader<'_, O> {
 
     // `kept`, here and below, ties the reader to the one before the call, which no invariant of the type can
     fn empty(&mut self)
-        ensures did { section_means self.new ≡ emptied (section_means self.old) }
+        ensures did { section_means self.new ≡ no_bytes (section_means self.old) }
         ensures kept { Kept self.new self.old }
     {
         self.len = 0;
     }
 
     fn truncate(&mut self, len: O) -> Result<(), Error>
-        ensures did { Did (λ x. x) result (section_means self.new) (truncated (O.ReaderOffset.number len) (section_means self.old)) }
+        ensures did { Did (λ x. x) result (section_means self.new)
+            (truncate_step (O.number len) (section_means self.old)) }
         ensures kept { Kept self.new self.old }
     {
         let len = len.into_u64() as usize;
@@ -140,7 +144,8 @@ impl<O: ReaderOffset> Reader for SectionReader<'_, O> {
     }
 
     fn skip(&mut self, len: O) -> Result<(), Error>
-        ensures did { Did (λ x. x) result (section_means self.new) (skipped (O.ReaderOffset.number len) (section_means self.old)) }
+        ensures did { Did (λ x. x) result (section_means self.new)
+            (skip_step (O.number len) (section_means self.old)) }
         ensures kept { Kept self.new self.old }
     {
         self.take(len.into_u64() as usize)?;
@@ -148,7 +153,8 @@ impl<O: ReaderOffset> Reader for SectionReader<'_, O> {
     }
 
     fn split(&mut self, len: O) -> Result<Self, Error>
-        ensures did { Did section_means result (section_means self.new) (split_off (O.ReaderOffset.number len) (section_means self.old)) }
+        ensures did { Did section_means result (section_means self.new)
+            (split_step (O.number len) (section_means self.old)) }
         ensures kept { Kept self.new self.old }
         ensures part { IfOk result (λ front. Kept front self.old) }
     {
@@ -158,7 +164,8 @@ impl<O: ReaderOffset> Reader for SectionReader<'_, O> {
     }
 
     fn read_slice(&mut self, buf: &mut [u8]) -> Result<(), Error>
-        ensures did { Filled result buf.old buf.new (section_means self.new) (copied (length buf.old) (section_means self.old)) }
+        ensures did { Filled result (buf.old, buf.new) (section_means self.new)
+            (copy_step (length buf.old) (section_means self.old)) }
         ensures kept { Kept self.new self.old }
     {
         let bytes = self.take(buf.len())?;
@@ -171,7 +178,6 @@ impl<O: ReaderOffset> Reader for SectionReader<'_, O> {
     }
 
     fn find(&self, byte: u8) -> Result<O, Error> {
-        // a match: `ok_or` would ask for the fault's id before it is known that there is a fault
         match self.slice().iter().position(|other| *other == byte) {
             Some(place) => O::from_u64(place as u64),
             None => Err(Error::UnexpectedEof(self.offset_id())),

@@ -1,8 +1,6 @@
-pub mod Folds
-pub mod FieldsRead
-pub mod Tallies
-pub mod Counts
-pub mod PlacesFound
 pub mod Appends
 pub mod Answered
-pub mod Wordwise
+pub mod Sets
+pub mod Visits
+pub mod Opened
+pub mod Wrote

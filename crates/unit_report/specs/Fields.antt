@@ -1,78 +1,54 @@
--- The numbers of a section that are read, and whether each relocation is of one of them.
-use Rattle.std.specs.Prelude.{ℕ, zero, suc, ◌-◌, ◌*◌, ◌/◌, Bool, false, cond, ◌||◌, List, [], ◌∷◌, Option, Some, None, Ok, Err, Result, nat_le, ◌==◌}
-use Rattle.std.specs.Map.{lookup}
-use Rattle.std.specs.Ordering.{nat_cmp}
-use Rattle.std.specs.BTreeMap.{insert_entry, is_at}
-use Rattle.readers.specs.Outcome.{Fault}
-use Rattle.readers.specs.Reading.{Meaning, length_size}
+-- The fields of a section whose ids are places in it: the numbers that are read of it; and whether each
+-- relocation is of one of them.
+use Rattle.std.specs.Prelude.{ℕ, zero, suc, ◌-◌, ◌*◌, ◌/◌, Bool, false, ◌&&◌, not, List, [], ◌∷◌, Option, Some, None, Ok, Err, Result, find, nat_le, ◌==◌}
+use Rattle.std.specs.List.{list_any}
+use Rattle.readers.specs.Reading.{length_size}
+use Rattle.aranges.specs.Answers.{Item, set, tuple, spoilt}
 use Rattle.aranges.specs.Sets.{Header}
 use Rattle.elf_relocations.specs.declared.record.Applied.{Applied}
-use Rattle.elf_relocations.specs.Machines.{bytes_of}
-use Rattle.elf_relocations.specs.Records.{plus}
+use Rattle.elf_relocations.specs.Actions.{bytes_of}
+use Rattle.elf_relocations.specs.Records.{wrapping_add}
+use Rattle.unit_report.specs.declared.fields.Field.{Field}
 use Rattle.unit_report.specs.declared.refusal.Refusal.{Refusal}
 use Rattle.unit_report.specs.declared.refusal.Refusal.TheVariants.{UnreadRelocation}
-use Rattle.unit_report.specs.Folds.{fold_section}
 
--- how many bytes each number has, by the place of its first byte, in order; and the place of the header that can't be
--- read, behind which nothing is; `plus` is the sum modulo 2^64
-pub record Fields : Type 0 where
-  pub sizes : List (ℕ × ℕ)
-  pub end : Option ℕ
+-- s bytes from place p on
+abbrev pub field : ℕ → ℕ → Field
+field p s = record { place = p; size = s }
 
-abbrev pub no_fields : Fields
-no_fields = record { sizes = []; end = None }
-
--- a number of s bytes at place p
-abbrev pub with_field : ℕ → ℕ → Fields → Fields
-with_field p s fs = record { sizes = insert_entry nat_cmp fs.sizes p s; end = fs.end }
-
--- the begin and the length of each of n tuples from place p on
-abbrev pub with_tuples : ℕ → ℕ → ℕ → Fields → Fields
-with_tuples zero p s fs = fs
-with_tuples (suc n) p s fs = with_tuples n (plus p (2 * s)) s (with_field (plus p s) s (with_field p s fs))
-
--- the tuples between two places
-abbrev pub with_tuples_to : ℕ → ℕ → ℕ → Fields → Fields
-with_tuples_to start end s fs = with_tuples ((end - start) / (2 * s)) start s fs
+-- the begin and the length of each of n tuples from place p on, where sums are modulo 2^64
+abbrev pub tuple_fields : ℕ → ℕ → ℕ → List Field
+tuple_fields zero p s = []
+tuple_fields (suc n) p s =
+    field p s ∷ field (wrapping_add p s) s ∷ tuple_fields n (wrapping_add p (2 * s)) s
 
 -- the place behind a set's initial length
 abbrev pub behind_length : Header → ℕ
-behind_length h = plus h.place (length_size h.word)
+behind_length h = wrapping_add h.place (length_size h.word)
 
 -- the info offset, behind the version, and the tuples up to the set's end
-abbrev pub with_set : Header → Fields → Fields
-with_set h fs =
-    with_tuples_to h.tuples.id (plus (behind_length h) h.length) h.size
-    (with_field (plus (behind_length h) 2) h.word fs)
+abbrev pub set_fields : Header → List Field
+set_fields h =
+    let count = (wrapping_add (behind_length h) h.length - h.tuples.id) / (2 * h.size) in
+    field (wrapping_add (behind_length h) 2) h.word ∷ tuple_fields count h.tuples.id h.size
 
-abbrev pub with_end : ℕ → Fault → Fields → Fields
-with_end p f fs = record { sizes = fs.sizes; end = Some p }
+-- whether a relocation is of a field, and changes all its bytes
+abbrev pub is_of : Applied → Field → Bool
+is_of r f = f.place == r.relocation.offset && f.size == bytes_of r.width
 
--- the numbers of a section, whose ids are places in it
-abbrev pub fields_in : ℕ → Meaning → Fields
-fields_in limit m = fold_section with_set with_end limit m no_fields
+-- whether it is of a field of a set, or stands at or behind a header that can't be read
+abbrev pub is_read_in : Applied → Item → Bool
+is_read_in r (set h) = list_any (is_of r) (set_fields h)
+is_read_in r (tuple a) = false
+is_read_in r (spoilt p f) = nat_le p r.relocation.offset
 
--- whether a size that was found is the one
-abbrev pub is_size : ℕ → Option ℕ → Bool
-is_size w (Some s) = s == w
-is_size w None = false
+abbrev pub is_read : List Item → Applied → Bool
+is_read items r = list_any (is_read_in r) items
 
--- whether a place is at or behind the end
-abbrev pub is_behind : ℕ → Option ℕ → Bool
-is_behind o (Some p) = nat_le p o
-is_behind o None = false
+-- the first that is not is refused
+abbrev pub unread_refusal : Option Applied → Result (Unit {0}) Refusal
+unread_refusal (Some r) = Err (UnreadRelocation r.relocation.offset)
+unread_refusal None = Ok tt
 
--- whether a relocation is of a number of its width, or of none that could be read
-abbrev pub fits : Fields → Applied → Bool
-fits fs r =
-    is_behind r.relocation.offset fs.end
-    || is_size (bytes_of r.width) (lookup (is_at (nat_cmp r.relocation.offset)) fs.sizes)
-
--- the first that does not fit is refused
-abbrev pub all_fit : Fields → List Applied → Result (Unit {0}) Refusal
-all_fit fs [] = Ok tt
-all_fit fs (r ∷ rs) = cond (fits fs r) (all_fit fs rs) (Err (UnreadRelocation r.relocation.offset))
-
--- each relocation of a section has to be of a number of it that is read
-abbrev pub checked : ℕ → Meaning → List Applied → Result (Unit {0}) Refusal
-checked limit m rs = all_fit (fields_in limit m) rs
+abbrev pub fields_check : List Item → List Applied → Result (Unit {0}) Refusal
+fields_check items rs = unread_refusal (find (λ r. not (is_read items r)) rs)

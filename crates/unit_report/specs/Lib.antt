@@ -1,7 +1,6 @@
 pub mod Addresses
 pub mod Surveys
 pub mod SurveyLinks
-pub mod Folds
 pub mod Fields
 pub mod FieldLinks
 pub mod Refusals
@@ -9,10 +8,8 @@ pub mod Images
 pub mod ImageLinks
 pub mod Lines
 pub mod LineLinks
-pub mod Places
 pub mod Sections
 pub mod Reports
 pub mod ReportLinks
-pub mod Words
 pub mod Arguments
 pub mod ArgumentLinks

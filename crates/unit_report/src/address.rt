@@ -4,9 +4,6 @@ ghost use Rattle.unit_report.specs.Addresses.{digit_of, with_digit, digits_of, a
 
 use std::fmt;
 
-// Above this a digit more takes the number past 64 bits.
-const HIGHEST_BUT_ONE: u64 = 0x0fff_ffff_ffff_ffff;
-
 /// Why a word is no address.
 #[derive(Clone, Copy, PartialEq, Eq, Debug)]
 pub enum AddressError {
@@ -53,10 +50,8 @@ fn with_digit(value: u64, byte: u8) -> Result<u64, AddressError>
     ensures { result ≡ with_digit value byte }
 {
     let digit = digit_of(byte).ok_or(AddressError::NotHexadecimal)?;
-    if value > HIGHEST_BUT_ONE {
-        return Err(AddressError::TooLarge);
-    }
-    Ok(value * 16 + digit as u64)
+    let shifted = value.checked_mul(16).ok_or(AddressError::TooLarge)?;
+    Ok(shifted + digit as u64)
 }
 
 fn digit_of(byte: u8) -> Option<u8>

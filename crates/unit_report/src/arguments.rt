@@ -1,7 +1,7 @@
 // The command line, and the lines of addresses that stand for its addresses where it has none.
 ghost use Rattle.std.specs.Prelude.{◌≡◌, map, string_bytes};
 ghost use Rattle.unit_report.specs.declared.arguments.UsageError.TheVariants.{NoMemory};
-ghost use Rattle.unit_report.specs.Words.{word_of};
+ghost use Rattle.unit_report.specs.Arguments.{argument_of};
 ghost use Rattle.unit_report.specs.ArgumentLinks.{Named, OnLine};
 
 use crate::address::{AddressError, parse_address};
@@ -69,7 +69,7 @@ impl<T: Drop> From<AllocFailed<T>> for UsageError<'_> {
 
 // what a word of the command line is for
 #[derive(Clone, Copy, PartialEq, Eq, Debug)]
-enum Word {
+enum Argument {
     Help,
     Version,
     Strict,
@@ -78,56 +78,87 @@ enum Word {
     Plain,
 }
 
-impl Word {
-    fn of(word: &str) -> Word
-        ensures { result ≡ word_of word.now }
+impl Argument {
+    fn of(word: &str) -> Argument
+        ensures { result ≡ argument_of word.now }
     {
         if word == "--help" || word == "-h" {
-            return Word::Help;
+            return Argument::Help;
         }
         if word == "--version" || word == "-V" {
-            return Word::Version;
+            return Argument::Version;
         }
         if word == "--strict" {
-            return Word::Strict;
+            return Argument::Strict;
         }
         match word.as_bytes() {
-            [b'-', ..] => Word::UnknownOption,
-            _ => Word::Plain,
+            [b'-', ..] => Argument::UnknownOption,
+            _ => Argument::Plain,
+        }
+    }
+}
+
+// what the words so far tell
+#[derive(Drop)]
+struct Settings<'a> {
+    strict: bool,
+    file: Option<&'a str>,
+    addresses: Vec<u64>,
+}
+
+impl<'a> Settings<'a> {
+    ghost use Rattle.unit_report.specs.Arguments.{word_step, report_with};
+    ghost use Rattle.unit_report.specs.ArgumentLinks.{settings_is, Stepped, Parsed};
+
+    // one word more; the command, where it decides alone
+    fn add(&mut self, word: &'a str) -> Result<Option<Command<'a>>, UsageError<'a>>
+        ensures { Stepped result (settings_is self.new)
+            (word_step (settings_is self.old) word.now (argument_of word.now)) }
+    {
+        match Argument::of(word) {
+            Argument::Help => return Ok(Some(Command::Help)),
+            Argument::Version => return Ok(Some(Command::Version)),
+            Argument::Strict => self.strict = true,
+            Argument::UnknownOption => return Err(UsageError::UnknownOption(word)),
+            Argument::Plain if self.file.is_none() => self.file = Some(word),
+            Argument::Plain => self.addresses.push(address_of(word)?)?,
+        }
+        Ok(None)
+    }
+
+    fn command(self) -> Result<Command<'a>, UsageError<'a>>
+        ensures { Parsed result (report_with (settings_is self.entry)) }
+    {
+        match self.file {
+            Some(file) => Ok(Command::Report(Request {
+                file,
+                strict: self.strict,
+                addresses: self.addresses,
+            })),
+            None => Err(UsageError::NoFile),
         }
     }
 }
 
 impl<'a> Command<'a> {
-    ghost use Rattle.unit_report.specs.Arguments.{arguments, no_words};
+    ghost use Rattle.unit_report.specs.Arguments.{purpose_of, no_settings};
     ghost use Rattle.unit_report.specs.ArgumentLinks.{Parsed};
 
     /// Reads the words behind the program's name; the first that decides alone ends it.
     pub fn parse(heap: Global, words: &'a [String]) -> Result<Command<'a>, UsageError<'a>>
-        ensures { Parsed result (arguments no_words (map string_bytes words.now)) }
+        ensures { Parsed result (purpose_of no_settings (map string_bytes words.now)) }
     {
-        let mut strict = false;
-        let mut file = None;
-        let mut addresses = Vec::new(heap);
+        let mut settings = Settings {
+            strict: false,
+            file: None,
+            addresses: Vec::new(heap),
+        };
         for word in words {
-            let word = word.as_str();
-            match Word::of(word) {
-                Word::Help => return Ok(Command::Help),
-                Word::Version => return Ok(Command::Version),
-                Word::Strict => strict = true,
-                Word::UnknownOption => return Err(UsageError::UnknownOption(word)),
-                Word::Plain if file.is_none() => file = Some(word),
-                Word::Plain => addresses.push(address_of(word)?)?,
+            if let Some(command) = settings.add(word.as_str())? {
+                return Ok(command);
             }
         }
-        match file {
-            Some(file) => Ok(Command::Report(Request {
-                file,
-                strict,
-                addresses,
-            })),
-            None => Err(UsageError::NoFile),
-        }
+        settings.command()
     }
 }
 

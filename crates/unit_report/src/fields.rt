@@ -1,71 +1,78 @@
-// The numbers of a section that are read, and whether each relocation is of one of them.
+// The fields of a section, which are the numbers that are read of it, and the check of relocations.
 ghost use Rattle.std.specs.Prelude.{◌≡◌};
-ghost use Rattle.unit_report.specs.Fields.{checked};
+ghost use Rattle.aranges.specs.Answers.{items_in};
+ghost use Rattle.unit_report.specs.Fields.{fields_check};
 ghost use Rattle.unit_report.specs.ImageLinks.{Answered};
 
 use crate::refusal::Refusal;
-use aranges::{ArangeHeader, DebugAranges};
+use aranges::{Answer, ArangeHeader, DebugAranges, Visitor};
 use elf_relocations::Applied;
-use readers::{AddressReader, Reader, ReaderOffset};
+use readers::{AddressReader, DebugArangesOffset, Error, Reader, ReaderOffset};
 use std::alloc::{AllocError, Global};
-use std::collections::BTreeMap;
+use std::collections::BTreeSet;
+use std::ops::ControlFlow;
 
-// the numbers that are read of a section
-#[derive(Drop)]
-struct Fields {
-    // how many bytes each has, by the place of its first byte
-    sizes: BTreeMap<u64, u8>,
-    // the place of the header that can't be read, behind which nothing is
-    end: Option<u64>,
-}
-
-/// Refuses the first record that is of no number of its width; behind a header that can't be read none is refused.
+/// Refuses the first record that is of no field of its width. None is refused at or behind a header that
+/// can't be read.
 pub fn check_records<R: AddressReader>(
     heap: Global,
     section: &DebugAranges<R>,
     records: &[Applied],
 ) -> Result<(), Refusal>
-    ensures { Answered (λ x. x) result (checked R.Offset.ReaderOffset.limit (R.Reader.means section.now.section) records.now) }
+    ensures { Answered (λ x. x) result
+        (fields_check (items_in R.Offset.limit (R.means section.now.section)) records.now) }
 {
-    // a file that is linked has none, and may have many numbers
+    // a file that is linked has none, and may have many fields
     if records.is_empty() {
         return Ok(());
     }
     let fields = Fields::of(heap, section)?;
-    fields.check(records)
+    match fields.first_unread(records) {
+        Some(record) => Err(Refusal::UnreadRelocation(record.relocation.offset)),
+        None => Ok(()),
+    }
+}
+
+// a number that is read: the place of its first byte, and how many bytes it has
+#[derive(Clone, Copy, PartialEq, Eq, PartialOrd, Ord)]
+struct Field {
+    place: u64,
+    size: u8,
+}
+
+#[derive(Drop)]
+struct Fields {
+    known: BTreeSet<Field>,
+    // the place of a header that can't be read, behind which nothing is
+    end: Option<u64>,
 }
 
 impl Fields {
-    ghost use Rattle.std.specs.Prelude.{IfOk, OnOk};
+    ghost use Rattle.std.specs.Prelude.{◌||◌, not, option_map, find, IfOk, OnOk};
+    ghost use Rattle.std.specs.List.{list_any};
     ghost use Rattle.aranges.specs.Links.{header_is};
-    ghost use Rattle.unit_report.specs.Fields.{fields_in, with_set, with_tuples_to, with_field, fits, all_fit};
-    ghost use Rattle.unit_report.specs.FieldLinks.{fields_is};
+    ghost use Rattle.unit_report.specs.Fields.{field, tuple_fields, set_fields, is_of, is_read};
+    ghost use Rattle.unit_report.specs.FieldLinks.{is_known};
 
-    // goes over all sets of a section, up to the first whose header can't be read
     fn of<R: AddressReader>(heap: Global, section: &DebugAranges<R>) -> Result<Fields, AllocError>
-        ensures { IfOk result (λ f. fields_is f ≡ fields_in R.Offset.ReaderOffset.limit (R.Reader.means section.now.section)) }
+        ensures { IfOk result (λ f.
+            is_known f ≡ is_read (items_in R.Offset.limit (R.means section.now.section))) }
     {
         let mut fields = Fields {
-            sizes: BTreeMap::new(heap),
+            known: BTreeSet::new(heap),
             end: None,
         };
-        let mut headers = section.headers();
-        loop {
-            let place = headers.offset().0;
-            match headers.next() {
-                Ok(Some(header)) => fields.add_set(&header)?,
-                Ok(None) => return Ok(fields),
-                Err(_) => {
-                    fields.end = Some(place);
-                    return Ok(fields);
-                }
-            }
+        match section.visit(&mut fields) {
+            ControlFlow::Continue(()) => Ok(fields),
+            ControlFlow::Break(()) => Err(AllocError),
         }
     }
 
     // the info offset of a set, and its tuples
     fn add_set<R: AddressReader>(&mut self, header: &ArangeHeader<R>) -> Result<(), AllocError>
-        ensures { OnOk result (fields_is self.new ≡ with_set (header_is R.Reader.means R.Offset.ReaderOffset.number header.now) (fields_is self.old)) }
+        ensures { OnOk result ((r : _) → is_known self.new r
+            ≡ (is_known self.old r
+            || list_any (is_of r) (set_fields (header_is R.means R.Offset.number header.now)))) }
     {
         let encoding = header.encoding();
         let length_size = encoding.format.initial_length_size() as u64;
@@ -73,58 +80,73 @@ impl Fields {
         // behind the version
         self.add(start.wrapping_add(2), encoding.format.word_size())?;
         let end = start.wrapping_add(header.length().into_u64());
-        self.add_tuples(header.entries().offset_id().0, end, encoding.address_size)
+        let first = header.entries().offset_id().0;
+        let tuple_size = 2 * encoding.address_size as u64;
+        let count = end
+            .saturating_sub(first)
+            .checked_div(tuple_size)
+            .unwrap_or(0);
+        self.add_tuples(count, first, encoding.address_size)
     }
 
-    // the begin and the length of each tuple between two places
-    fn add_tuples(&mut self, start: u64, end: u64, size: u8) -> Result<(), AllocError>
-        ensures { OnOk result (fields_is self.new ≡ with_tuples_to start end size (fields_is self.old)) }
+    // the begin and the length of each of some tuples from a place on
+    fn add_tuples(&mut self, count: u64, start: u64, size: u8) -> Result<(), AllocError>
+        ensures { OnOk result ((r : _) → is_known self.new r
+            ≡ (is_known self.old r || list_any (is_of r) (tuple_fields count start size))) }
     {
-        let tuple_size = 2 * size as u64;
-        let bytes = end.saturating_sub(start);
-        let count = bytes.checked_div(tuple_size).unwrap_or(0);
         let mut place = start;
         for _ in 0..count {
             self.add(place, size)?;
             self.add(place.wrapping_add(size as u64), size)?;
-            place = place.wrapping_add(tuple_size);
+            place = place.wrapping_add(2 * size as u64);
         }
         Ok(())
     }
 
-    // one number
     fn add(&mut self, place: u64, size: u8) -> Result<(), AllocError>
-        ensures { OnOk result (fields_is self.new ≡ with_field place size (fields_is self.old)) }
+        ensures { OnOk result ((r : _) → is_known self.new r
+            ≡ (is_known self.old r || is_of r (field place size))) }
     {
-        self.sizes.insert(place, size)?;
+        self.known.insert(Field { place, size })?;
         Ok(())
     }
 
-    // each record has to fit
-    fn check(&self, records: &[Applied]) -> Result<(), Refusal>
-        ensures { Answered (λ x. x) result (all_fit (fields_is self.now) records.now) }
+    fn first_unread<'a>(&self, records: &'a [Applied]) -> Option<&'a Applied>
+        ensures { option_map (λ r. r.now) result
+            ≡ find (λ r. not (is_known self.now r)) records.now }
     {
-        for record in records {
-            if !self.fits(record) {
-                return Err(Refusal::UnreadRelocation(record.relocation.offset));
-            }
-        }
-        Ok(())
+        records.iter().find(|record| !self.has(record))
     }
 
-    // whether a record is of a number of its width, or of none that could be read
-    fn fits(&self, applied: &Applied) -> bool
-        ensures { result ≡ fits (fields_is self.now) applied.now }
+    // whether a record is of a field and of its width, or of none that could be read
+    fn has(&self, applied: &Applied) -> bool
+        ensures { result ≡ is_known self.now applied.now }
     {
-        let offset = applied.relocation.offset;
-        if let Some(end) = self.end
-            && end <= offset
-        {
-            return true;
+        let place = applied.relocation.offset;
+        let size = applied.width.bytes();
+        self.end.is_some_and(|end| end <= place) || self.known.contains(&Field { place, size })
+    }
+}
+
+impl<R: AddressReader> Visitor<R> for Fields {
+    ghost use Rattle.unit_report.specs.FieldLinks.{Learns};
+
+    ghost visits = { Learns };
+
+    fn enter(&mut self, header: &ArangeHeader<R>) -> ControlFlow<()> {
+        match self.add_set(header) {
+            Ok(()) => ControlFlow::Continue(()),
+            Err(_) => ControlFlow::Break(()),
         }
-        match self.sizes.get(&offset) {
-            Some(size) => *size == applied.width.bytes(),
-            None => false,
-        }
+    }
+
+    fn answer(&mut self, _header: &ArangeHeader<R>, _answer: Answer) -> ControlFlow<()> {
+        ControlFlow::Continue(())
+    }
+
+    fn spoilt(&mut self, offset: DebugArangesOffset<u64>, _error: Error) -> ControlFlow<()> {
+        let place = self.end.map_or(offset.0, |end| end.min(offset.0));
+        self.end = Some(place);
+        ControlFlow::Continue(())
     }
 }

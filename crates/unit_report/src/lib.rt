@@ -6,7 +6,6 @@ mod arguments;
 mod fields;
 mod image;
 mod lines;
-mod place;
 mod refusal;
 mod report;
 mod survey;

@@ -1,26 +1,53 @@
 // The lines of a report, each of one fact.
-ghost use Rattle.std.specs.Prelude.{◌≡◌, ◌≤◌, ◌++◌, string_bytes, OnOk, Some, Ok, map, option_map};
+ghost use Rattle.std.specs.Prelude.{◌≡◌, ◌≤◌, Some, Ok, map, option_map};
 ghost use Rattle.elf.specs.FileLinks.{file_is};
-ghost use Rattle.elf.specs.Links.{word_of};
+ghost use Rattle.elf.specs.Links.{class_word};
 ghost use Rattle.readers.specs.Links.{is_big};
-ghost use Rattle.walk.specs.Links.{looked_is};
-ghost use Rattle.unit_report.specs.Lines.{class_text, order_text, kind_text, machine_text, file_line, section_line, relocated_line, odd_line, read_line, answer_text, place_text, shown, total_line};
-ghost use Rattle.unit_report.specs.SurveyLinks.{odd_is, survey_is};
-ghost use Rattle.unit_report.specs.LineLinks.{halts};
+ghost use Rattle.lookup.specs.Lookups.{range};
+ghost use Rattle.lookup.specs.Links.{looked_is, found_is};
+ghost use Rattle.unit_report.specs.Lines.{class_text, order_text, kind_text, machine_text, file_line, section_line, relocated_line, oddity_line, survey_line, answer_text, place_text, shown_byte, total_line};
+ghost use Rattle.unit_report.specs.SurveyLinks.{oddity_is, survey_is};
+ghost use Rattle.unit_report.specs.LineLinks.{halts, Appends};
 
 use crate::survey::{Oddity, Survey};
-use elf::{Class, ElfFile, FileKind, Section};
-use elf_relocations::Machine;
+use elf::{Class, ElfFile, FileKind, Machine, Section};
+use lookup::{Found, Lookup};
 use readers::{Error, RunTimeEndian};
 use std::alloc::AllocError;
 use std::fmt;
-use walk::{Found, Lookup};
+
+/// What a lookup of an address in the section comes to.
+pub type LookupResult = Result<Lookup<usize>, Error>;
 
 /// Whether the reading goes on behind an oddity.
 #[derive(Clone, Copy, PartialEq, Eq, Debug)]
 pub enum Then {
     GoesOn,
     Halts,
+}
+
+impl Then {
+    ghost use Rattle.unit_report.specs.Lines.{tuple_end, header_end};
+
+    // what follows a spoilt tuple
+    fn tuple_end(self) -> &'static str
+        ensures { result.now ≡ tuple_end (halts self) }
+    {
+        match self {
+            Then::GoesOn => "passed",
+            Then::Halts => "halted",
+        }
+    }
+
+    // what follows a spoilt header
+    fn header_end(self) -> &'static str
+        ensures { result.now ≡ header_end (halts self) }
+    {
+        match self {
+            Then::GoesOn => "the section ends here",
+            Then::Halts => "halted",
+        }
+    }
 }
 
 // what kind of file it is
@@ -42,9 +69,9 @@ impl fmt::Display for Kind {
 
 // the number of a machine, and its name where it is known
 #[derive(Drop)]
-struct Named(u16);
+struct MachineNumber(u16);
 
-impl fmt::Display for Named {
+impl fmt::Display for MachineNumber {
     ghost output = { λ machine. Some (machine_text machine.0) };
 
     fn fmt<W: fmt::Write>(&self, f: &mut fmt::Formatter<W>) -> fmt::Result {
@@ -57,7 +84,7 @@ impl fmt::Display for Named {
 }
 
 fn class_text(class: Class) -> &'static str
-    ensures { result.now ≡ class_text (word_of class) }
+    ensures { result.now ≡ class_text (class_word class) }
 {
     match class {
         Class::Elf32 => "ELF32",
@@ -76,18 +103,18 @@ fn order_text(endian: RunTimeEndian) -> &'static str
 
 /// What the file is.
 pub fn write_file(out: &mut String, file: &ElfFile) -> Result<(), AllocError>
-    ensures { OnOk result (string_bytes out.new ≡ string_bytes out.old ++ file_line (file_is file.now)) }
+    ensures { Appends result out.old out.new (file_line (file_is file.now)) }
 {
     let class = class_text(file.class());
     let order = order_text(file.endian());
     let kind = Kind(file.kind());
-    let machine = Named(file.machine());
+    let machine = MachineNumber(file.machine_number());
     write!(out, "file: {class}, {order}, {kind}, machine {machine}\n")
 }
 
 /// Where the section is.
 pub fn write_section(out: &mut String, section: &Section) -> Result<(), AllocError>
-    ensures { OnOk result (string_bytes out.new ≡ string_bytes out.old ++ section_line section.now) }
+    ensures { Appends result out.old out.new (section_line section.now) }
 {
     let size = section.size;
     let offset = section.offset;
@@ -99,7 +126,7 @@ pub fn write_section(out: &mut String, section: &Section) -> Result<(), AllocErr
 
 /// How many places of the section are relocated, in a file that is not linked.
 pub fn write_relocated(out: &mut String, kind: FileKind, places: usize) -> Result<(), AllocError>
-    ensures { OnOk result (string_bytes out.new ≡ string_bytes out.old ++ relocated_line kind places) }
+    ensures { Appends result out.old out.new (relocated_line kind places) }
 {
     match kind {
         FileKind::Relocatable => write!(out, "relocated: {places} places\n"),
@@ -109,36 +136,26 @@ pub fn write_relocated(out: &mut String, kind: FileKind, places: usize) -> Resul
 
 /// What is odd, and what follows.
 pub fn write_oddity(out: &mut String, oddity: &Oddity, then: Then) -> Result<(), AllocError>
-    ensures { OnOk result (string_bytes out.new ≡ string_bytes out.old ++ odd_line (halts then) (odd_is oddity.now)) }
+    ensures { Appends result out.old out.new (oddity_line (halts then) (oddity_is oddity.now)) }
 {
-    match (*oddity, then) {
-        (Oddity::Tuple { set, tuple, fault }, Then::GoesOn) => {
+    match *oddity {
+        Oddity::Tuple { set, tuple, fault } => {
+            let end = then.tuple_end();
             write!(
                 out,
-                "spoilt tuple: set 0x{set:x}, tuple {tuple}: {fault}; passed\n"
+                "spoilt tuple: set 0x{set:x}, tuple {tuple}: {fault}; {end}\n"
             )
         }
-        (Oddity::Tuple { set, tuple, fault }, Then::Halts) => {
-            write!(
-                out,
-                "spoilt tuple: set 0x{set:x}, tuple {tuple}: {fault}; halted\n"
-            )
-        }
-        (Oddity::Header { set, fault }, Then::GoesOn) => {
-            write!(
-                out,
-                "spoilt header: set 0x{set:x}: {fault}; the section ends here\n"
-            )
-        }
-        (Oddity::Header { set, fault }, Then::Halts) => {
-            write!(out, "spoilt header: set 0x{set:x}: {fault}; halted\n")
+        Oddity::Header { set, fault } => {
+            let end = then.header_end();
+            write!(out, "spoilt header: set 0x{set:x}: {fault}; {end}\n")
         }
     }
 }
 
 /// How much was read.
 pub fn write_survey(out: &mut String, survey: &Survey) -> Result<(), AllocError>
-    ensures { OnOk result (string_bytes out.new ≡ string_bytes out.old ++ read_line (survey_is survey.now)) }
+    ensures { Appends result out.old out.new (survey_line (survey_is survey.now)) }
 {
     let sets = survey.sets;
     let ranges = survey.ranges;
@@ -150,12 +167,9 @@ pub fn write_survey(out: &mut String, survey: &Survey) -> Result<(), AllocError>
 }
 
 /// The answer at an address, without the section of its range and the end of the line.
-pub fn write_answer(
-    out: &mut String,
-    address: u64,
-    answer: &Result<Lookup<usize>, Error>,
-) -> Result<(), AllocError>
-    ensures { OnOk result (string_bytes out.new ≡ string_bytes out.old ++ answer_text address (looked_is (λ x. x) answer.now)) }
+pub fn write_answer(out: &mut String, address: u64, answer: &LookupResult) -> Result<(), AllocError>
+    ensures { Appends result out.old out.new
+        (answer_text address (looked_is (λ x. x) answer.now)) }
 {
     match answer {
         Ok(lookup) => {
@@ -178,7 +192,8 @@ fn write_found(
     found: &Found<usize>,
     passed: u64,
 ) -> Result<(), AllocError>
-    ensures { OnOk result (string_bytes out.new ≡ string_bytes out.old ++ answer_text address (looked_is (λ x. x) (Ok (record { found = Some found.now; passed = passed })))) }
+    ensures { Appends result out.old out.new
+        (answer_text address (range (found_is (λ x. x) found.now) passed)) }
 {
     let unit = found.debug_info_offset.0;
     let begin = found.entry.range().begin;
@@ -186,13 +201,14 @@ fn write_found(
     let set = found.set.0;
     write!(
         out,
-        "0x{address:x}: unit 0x{unit:x}, range 0x{begin:x}..0x{end:x}, set 0x{set:x}, tuples passed {passed}"
+        "0x{address:x}: unit 0x{unit:x}, range 0x{begin:x}..0x{end:x}, \
+         set 0x{set:x}, tuples passed {passed}"
     )
 }
 
-/// The section in which a range lies, where it is known; a byte that would not show stands as a question mark.
+/// The section in which a range lies, where it is known; a byte that would not show stands as `?`.
 pub fn write_place(out: &mut String, name: Option<&[u8]>) -> Result<(), AllocError>
-    ensures { OnOk result (string_bytes out.new ≡ string_bytes out.old ++ place_text (option_map (λ x. x.now) name.entry)) }
+    ensures { Appends result out.old out.new (place_text (option_map (λ x. x.now) name.entry)) }
 {
     match name {
         Some(name) => {
@@ -204,16 +220,16 @@ pub fn write_place(out: &mut String, name: Option<&[u8]>) -> Result<(), AllocErr
 }
 
 fn write_shown(out: &mut String, name: &[u8]) -> Result<(), AllocError>
-    ensures { OnOk result (string_bytes out.new ≡ string_bytes out.old ++ map shown name.now) }
+    ensures { Appends result out.old out.new (map shown_byte name.now) }
 {
     for byte in name {
-        out.push(shown(*byte) as char)?;
+        out.push(shown_byte(*byte) as char)?;
     }
     Ok(())
 }
 
-fn shown(byte: u8) -> u8
-    ensures { result ≡ shown byte }
+fn shown_byte(byte: u8) -> u8
+    ensures { result ≡ shown_byte byte }
 {
     if byte > 0x20 && byte < 0x7f {
         byte
@@ -225,7 +241,7 @@ fn shown(byte: u8) -> u8
 /// The last line.
 pub fn write_totals(out: &mut String, all: usize, found: usize) -> Result<(), AllocError>
     requires { found ≤ all }
-    ensures { OnOk result (string_bytes out.new ≡ string_bytes out.old ++ total_line all found) }
+    ensures { Appends result out.old out.new (total_line all found) }
 {
     let missing = all - found;
     write!(

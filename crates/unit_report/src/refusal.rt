@@ -1,7 +1,7 @@
 // Why a file has no report.
 ghost use Rattle.std.specs.Prelude.{◌≡◌, Some};
 ghost use Rattle.unit_report.specs.declared.refusal.Refusal.TheVariants.{Elf, Relocation, NoMemory};
-ghost use Rattle.unit_report.specs.Refusals.{text};
+ghost use Rattle.unit_report.specs.Refusals.{refusal_text};
 
 use elf::ElfError;
 use elf_relocations::RelocationError;
@@ -26,7 +26,7 @@ pub enum Refusal {
 
 /// Writes one sentence.
 impl fmt::Display for Refusal {
-    ghost output = { λ refusal. Some (text refusal) };
+    ghost output = { λ refusal. Some (refusal_text refusal) };
 
     fn fmt<W: fmt::Write>(&self, f: &mut fmt::Formatter<W>) -> fmt::Result {
         match self {
@@ -35,11 +35,13 @@ impl fmt::Display for Refusal {
             Refusal::NoSection => write!(f, "the file has no section .debug_aranges"),
             Refusal::Compressed => write!(
                 f,
-                "section .debug_aranges is compressed: objcopy --decompress-debug-sections undoes that"
+                "section .debug_aranges is compressed: \
+                 objcopy --decompress-debug-sections undoes that"
             ),
             Refusal::UnreadRelocation(offset) => write!(
                 f,
-                "relocation at offset {offset} of .debug_aranges is of no address or offset that is read"
+                "relocation at offset {offset} of .debug_aranges \
+                 is of no address or offset that is read"
             ),
             Refusal::NoMemory => write!(f, "there is not enough memory for the report"),
         }
@@ -72,7 +74,7 @@ impl From<AllocError> for Refusal {
     }
 }
 
-// std tells want of memory by two types: a push hands back what it could not keep.
+// A push hands back what it could not keep.
 impl<T: Drop> From<AllocFailed<T>> for Refusal {
     ghost from_gives = { λ _ r. r ≡ NoMemory };
 

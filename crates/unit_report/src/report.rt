@@ -1,21 +1,22 @@
 // The report of a file.
-ghost use Rattle.std.specs.Prelude.{◌≡◌, ◌++◌, string_bytes, OnOk, option_map};
-ghost use Rattle.walk.specs.Links.{looked_is};
-ghost use Rattle.unit_report.specs.Reports.{head, odd_lines, is_range, status_code, line_by, range_section, answers, halting, report_in, report_of};
-ghost use Rattle.unit_report.specs.ImageLinks.{image_is, name_is};
-ghost use Rattle.unit_report.specs.ReportLinks.{Wrote, Reported};
-ghost use Rattle.unit_report.specs.SurveyLinks.{odd_is, survey_is};
+ghost use Rattle.std.specs.Prelude.{◌≡◌, map, zip, count_by, option_map};
+ghost use Rattle.elf.specs.Results.{result_is};
+ghost use Rattle.lookup.specs.Links.{found_is, looked_is};
+ghost use Rattle.unit_report.specs.ImageLinks.{image_is};
+ghost use Rattle.unit_report.specs.LineLinks.{Appends};
+ghost use Rattle.unit_report.specs.ReportLinks.{Wrote};
+ghost use Rattle.unit_report.specs.Reports.{head_lines, oddity_lines, found_in, is_found, status_code, answer_line, answer_lines, answer_section, answers_text, halting_oddity, report_in, report_of, report};
+ghost use Rattle.unit_report.specs.SurveyLinks.{oddity_is, survey_is};
 
 use crate::image::Image;
 use crate::lines::{
-    Then, write_answer, write_file, write_oddity, write_place, write_relocated, write_section,
-    write_survey, write_totals,
+    LookupResult, Then, write_answer, write_file, write_oddity, write_place, write_relocated,
+    write_section, write_survey, write_totals,
 };
 use crate::refusal::Refusal;
 use crate::survey::{Oddity, Survey, survey_section};
-use readers::Error;
+use lookup::{Found, lookup_addresses};
 use std::alloc::{AllocError, Global};
-use walk::{Lookup, lookup_address};
 
 /// What the program's end says.
 #[derive(Clone, Copy, PartialEq, Eq, Debug)]
@@ -49,7 +50,8 @@ pub fn write_report(
     strict: bool,
     out: &mut String,
 ) -> Result<Status, Refusal>
-    ensures { Reported result (string_bytes out.old) (string_bytes out.new) (report_of bytes.now strict addresses.now) }
+    ensures { Wrote report result out.old out.new
+        (report_of bytes.now strict addresses.now) }
 {
     let image = Image::open(heap, bytes)?;
     write_image(heap, &image, addresses, strict, out)
@@ -63,11 +65,12 @@ fn write_image(
     strict: bool,
     out: &mut String,
 ) -> Result<Status, Refusal>
-    ensures { Reported result (string_bytes out.old) (string_bytes out.new) (report_in strict addresses.now (image_is image.now)) }
+    ensures { Wrote report result out.old out.new
+        (report_in strict addresses.now (image_is image.now)) }
 {
     let survey = survey_section(heap, &image.aranges())?;
     write_head(image, out)?;
-    match halting(&survey, strict) {
+    match halting_oddity(&survey, strict) {
         Some(oddity) => {
             write_oddity(out, &oddity, Then::Halts)?;
             Ok(Status::Failed)
@@ -75,7 +78,7 @@ fn write_image(
         None => {
             write_oddities(&survey, out)?;
             write_survey(out, &survey)?;
-            write_answers(image, addresses, out)?;
+            write_answers(heap, image, addresses, out)?;
             Ok(Status::Complete)
         }
     }
@@ -83,8 +86,8 @@ fn write_image(
 
 // the oddity at which the report halts
 #[tactic(auto, using(crate::proofs::Answered::first_map))]
-fn halting(survey: &Survey, strict: bool) -> Option<Oddity>
-    ensures { option_map odd_is result ≡ halting strict (survey_is survey.now).oddities }
+fn halting_oddity(survey: &Survey, strict: bool) -> Option<Oddity>
+    ensures { option_map oddity_is result ≡ halting_oddity strict (survey_is survey.now) }
 {
     if strict {
         survey.oddities.first().copied()
@@ -95,17 +98,17 @@ fn halting(survey: &Survey, strict: bool) -> Option<Oddity>
 
 // what the file and the section are
 fn write_head(image: &Image, out: &mut String) -> Result<(), AllocError>
-    ensures { OnOk result (string_bytes out.new ≡ string_bytes out.old ++ head (image_is image.now)) }
+    ensures { Appends result out.old out.new (head_lines (image_is image.now)) }
 {
     write_file(out, &image.file)?;
     write_section(out, &image.section)?;
-    write_relocated(out, image.file.kind(), image.applied.len())?;
+    write_relocated(out, image.file.kind(), image.places())?;
     Ok(())
 }
 
 // a line for each oddity
 fn write_oddities(survey: &Survey, out: &mut String) -> Result<(), AllocError>
-    ensures { OnOk result (string_bytes out.new ≡ string_bytes out.old ++ odd_lines (survey_is survey.now).oddities) }
+    ensures { Appends result out.old out.new (oddity_lines (survey_is survey.now).oddities) }
 {
     for oddity in &survey.oddities {
         write_oddity(out, oddity, Then::GoesOn)?;
@@ -114,19 +117,35 @@ fn write_oddities(survey: &Survey, out: &mut String) -> Result<(), AllocError>
 }
 
 // a line for each address, and the totals
-fn write_answers(image: &Image, addresses: &[u64], out: &mut String) -> Result<(), Refusal>
-    ensures { Wrote result (string_bytes out.old) (string_bytes out.new) (answers (image_is image.now) addresses.now) }
+fn write_answers(
+    heap: Global,
+    image: &Image,
+    addresses: &[u64],
+    out: &mut String,
+) -> Result<(), Refusal>
+    ensures { Wrote (λ _ t. t) result out.old out.new
+        (answers_text (image_is image.now) addresses.now) }
 {
-    let section = image.aranges();
-    let mut found = 0;
-    for address in addresses {
-        let answer = lookup_address(&section, *address);
-        write_line(image, *address, &answer, out)?;
-        if is_found(&answer) {
-            found += 1;
-        }
+    let answers = lookup_addresses(heap, &image.aranges(), addresses)?;
+    write_lines(image, addresses, &answers, out)?;
+    write_totals(out, addresses.len(), count_found(&answers))?;
+    Ok(())
+}
+
+// a line for each address and its answer
+fn write_lines(
+    image: &Image,
+    addresses: &[u64],
+    answers: &[LookupResult],
+    out: &mut String,
+) -> Result<(), Refusal>
+    ensures { Wrote (λ _ t. t) result out.old out.new
+        (answer_lines (image_is image.now)
+        (zip addresses.now (map (looked_is (λ x. x)) answers.now))) }
+{
+    for (address, answer) in addresses.iter().zip(answers) {
+        write_line(image, *address, answer, out)?;
     }
-    write_totals(out, addresses.len(), found)?;
     Ok(())
 }
 
@@ -134,12 +153,13 @@ fn write_answers(image: &Image, addresses: &[u64], out: &mut String) -> Result<(
 fn write_line(
     image: &Image,
     address: u64,
-    answer: &Result<Lookup<usize>, Error>,
+    answer: &LookupResult,
     out: &mut String,
 ) -> Result<(), Refusal>
-    ensures { Wrote result (string_bytes out.old) (string_bytes out.new) (line_by (image_is image.now) address (looked_is (λ x. x) answer.now)) }
+    ensures { Wrote (λ _ t. t) result out.old out.new
+        (answer_line (image_is image.now) address (looked_is (λ x. x) answer.now)) }
 {
-    let name = range_section(image, address, answer)?;
+    let name = answer_section(image, answer)?;
     write_answer(out, address, answer)?;
     write_place(out, name)?;
     out.push_str("\n")?;
@@ -147,28 +167,32 @@ fn write_line(
 }
 
 // the name of the section of the range that an answer tells
-fn range_section<'a>(
-    image: &Image<'a>,
-    address: u64,
-    answer: &Result<Lookup<usize>, Error>,
-) -> Result<Option<&'a [u8]>, Refusal>
-    ensures { name_is result ≡ range_section (image_is image.now) address (looked_is (λ x. x) answer.now) }
+fn answer_section<'a>(image: &Image<'a>, answer: &LookupResult) -> Result<Option<&'a [u8]>, Refusal>
+    ensures { result_is (option_map (λ x. x.now)) result
+        ≡ answer_section (image_is image.now) (looked_is (λ x. x) answer.now) }
 {
-    match answer {
-        Ok(lookup) => match lookup.found {
-            Some(found) => image.section_of(address, found.set.0),
-            None => Ok(None),
-        },
-        Err(_) => Ok(None),
+    match found_in(answer) {
+        Some(found) => image.range_section(&found),
+        None => Ok(None),
     }
 }
 
-// whether a unit holds the address
-fn is_found(answer: &Result<Lookup<usize>, Error>) -> bool
-    ensures { result ≡ is_range (looked_is (λ x. x) answer.now) }
+// how many addresses a unit holds
+fn count_found(answers: &[LookupResult]) -> usize
+    ensures { result ≡ count_by is_found (map (looked_is (λ x. x)) answers.now) }
+{
+    answers
+        .iter()
+        .filter(|answer| found_in(answer).is_some())
+        .count()
+}
+
+// the range that an answer tells
+fn found_in(answer: &LookupResult) -> Option<Found<usize>>
+    ensures { option_map (found_is (λ x. x)) result ≡ found_in (looked_is (λ x. x) answer.now) }
 {
     match answer {
-        Ok(lookup) => lookup.found.is_some(),
-        Err(_) => false,
+        Ok(lookup) => lookup.found,
+        Err(_) => None,
     }
 }

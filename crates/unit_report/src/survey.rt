@@ -1,12 +1,15 @@
 // A survey of a section: how many sets and ranges it has, and what is odd in it.
-ghost use Rattle.std.specs.Prelude.{◌≡◌, ◌+◌, ◌-◌, ◌/◌, ◌^◌, ◌<◌, ◌≤◌, length, IfOk, OnOk};
-ghost use Rattle.aranges.specs.Links.{header_is};
-ghost use Rattle.unit_report.specs.Surveys.{survey_in, tally_set, spoilt};
-ghost use Rattle.unit_report.specs.SurveyLinks.{survey_is};
+ghost use Rattle.std.specs.Prelude.{◌≡◌, IfOk};
+ghost use Rattle.std.specs.Bool.{OnFalse};
+ghost use Rattle.aranges.specs.Answers.{items_in};
+ghost use Rattle.aranges.specs.Links.{is_break};
+ghost use Rattle.unit_report.specs.Surveys.{survey_of, spoilt_tuples};
+ghost use Rattle.unit_report.specs.SurveyLinks.{oddity_is, survey_is, with_oddity};
 
-use aranges::{ArangeHeader, DebugAranges};
-use readers::{AddressReader, Error, Reader, ReaderOffset};
+use aranges::{Answer, ArangeHeader, DebugAranges, Visitor};
+use readers::{AddressReader, DebugArangesOffset, Error, Reader, ReaderOffset};
 use std::alloc::{AllocError, Global};
+use std::ops::ControlFlow;
 
 /// What can't be read of a section; a set is told by its place.
 #[derive(Clone, Copy, PartialEq, Eq, Debug)]
@@ -19,11 +22,10 @@ pub enum Oddity {
 
 impl Oddity {
     ghost use Rattle.unit_report.specs.Surveys.{is_tuple};
-    ghost use Rattle.unit_report.specs.SurveyLinks.{odd_is};
 
     // whether it is a tuple, and not a header
     fn is_tuple(&self) -> bool
-        ensures { result ≡ is_tuple (odd_is self.now) }
+        ensures { result ≡ is_tuple (oddity_is self.now) }
     {
         match self {
             Oddity::Tuple { .. } => true,
@@ -46,35 +48,26 @@ pub fn survey_section<R: AddressReader>(
     heap: Global,
     section: &DebugAranges<R>,
 ) -> Result<Survey, AllocError>
-    ensures { IfOk result (λ s. survey_is s ≡ survey_in R.Offset.ReaderOffset.limit (R.Reader.means section.now.section)) }
+    ensures { IfOk result (λ s. survey_is s
+        ≡ survey_of (items_in R.Offset.limit (R.means section.now.section))) }
 {
-    // each set and each range took a byte, so their numbers stay within the section's length
-    let total = section.len().into_u64();
+    // each set and each range takes a byte, so that their numbers fit
+    let _total = section.len().into_u64();
     let mut survey = Survey {
         sets: 0,
         ranges: 0,
         oddities: Vec::new(heap),
     };
-    let mut headers = section.headers();
-    loop {
-        prove!(survey.sets <= total && survey.ranges <= total);
-        let set = headers.offset().0;
-        match headers.next() {
-            Ok(Some(header)) => survey.read_set(&header)?,
-            Ok(None) => return Ok(survey),
-            Err(fault) => {
-                survey.oddities.push(Oddity::Header { set, fault })?;
-                return Ok(survey);
-            }
-        }
+    match section.visit(&mut survey) {
+        ControlFlow::Continue(()) => Ok(survey),
+        ControlFlow::Break(()) => Err(AllocError),
     }
 }
 
 impl Survey {
     /// How many tuples are odd.
-    #[tactic(auto, using(crate::proofs::Counts::spoilt_map))]
     pub fn spoilt_tuples(&self) -> usize
-        ensures { result ≡ spoilt (survey_is self.now).oddities }
+        ensures { result ≡ spoilt_tuples (survey_is self.now).oddities }
     {
         self.oddities
             .iter()
@@ -82,36 +75,46 @@ impl Survey {
             .count()
     }
 
-    // counts a set and its ranges, and notes its spoilt tuples
-    fn read_set<R: AddressReader>(&mut self, header: &ArangeHeader<R>) -> Result<(), AllocError>
-        requires room { self.old.ranges + length (R.Reader.means header.now.entries).rest < 2 ^ 64 }
-        requires more { self.old.sets + 1 < 2 ^ 64 }
-        ensures tallies { OnOk result (survey_is self.new ≡ tally_set (header_is R.Reader.means R.Offset.ReaderOffset.number header.now) (survey_is self.old)) }
-        ensures bound { OnOk result (self.new.ranges ≤ self.old.ranges + length (R.Reader.means header.now.entries).rest) }
-        ensures sets { OnOk result (self.new.sets ≡ self.old.sets + 1) }
+    // stops where memory is short
+    fn note(&mut self, oddity: Oddity) -> ControlFlow<()>
+        ensures { OnFalse (is_break result)
+            (survey_is self.new ≡ with_oddity (survey_is self.old) (oddity_is oddity)) }
     {
-        self.sets += 1;
-        let set = header.offset().0;
-        let tuple_size = 2 * header.encoding().address_size as u64;
-        let mut entries = header.entries();
-        let first = entries.offset_id().0;
-        loop {
-            match entries.next() {
-                Ok(Some(_)) => self.ranges += 1,
-                Ok(None) => return Ok(()),
-                Err(fault) => {
-                    let tuple = tuple_before(entries.offset_id().0, first, tuple_size);
-                    self.oddities.push(Oddity::Tuple { set, tuple, fault })?;
-                }
-            }
+        match self.oddities.push(oddity) {
+            Ok(()) => ControlFlow::Continue(()),
+            Err(_) => ControlFlow::Break(()),
         }
     }
 }
 
-// The number of the tuple that the byte before an id belongs to; the tuples begin at the id `first`.
-fn tuple_before(id: u64, first: u64, tuple_size: u64) -> u64
-    ensures { result ≡ (id - first - 1) / tuple_size }
-{
-    let read = id.saturating_sub(first);
-    read.saturating_sub(1).checked_div(tuple_size).unwrap_or(0)
+impl<R: AddressReader> Visitor<R> for Survey {
+    ghost use Rattle.unit_report.specs.SurveyLinks.{Notes};
+
+    ghost visits = { Notes };
+
+    fn enter(&mut self, _header: &ArangeHeader<R>) -> ControlFlow<()> {
+        self.sets = self.sets.saturating_add(1);
+        ControlFlow::Continue(())
+    }
+
+    fn answer(&mut self, header: &ArangeHeader<R>, answer: Answer) -> ControlFlow<()> {
+        match answer.outcome {
+            Ok(_) => {
+                self.ranges = self.ranges.saturating_add(1);
+                ControlFlow::Continue(())
+            }
+            Err(fault) => self.note(Oddity::Tuple {
+                set: header.offset().0,
+                tuple: answer.number,
+                fault,
+            }),
+        }
+    }
+
+    fn spoilt(&mut self, offset: DebugArangesOffset<u64>, fault: Error) -> ControlFlow<()> {
+        self.note(Oddity::Header {
+            set: offset.0,
+            fault,
+        })
+    }
 }

@@ -1,4 +1,3 @@
 pub mod Events
-pub mod Lookups
 pub mod State
 pub mod Links

@@ -1,6 +1,6 @@
 -- The state of an open walk, and for each call its answer and the state after it.
 use Rattle.std.specs.Prelude.{ℕ, Some, None, Option}
-use Rattle.readers.specs.Outcome.{Outcome, answer, fault, fault_of, numbered}
+use Rattle.readers.specs.Outcome.{Outcome, answer, fault, fault_of, fault_by}
 use Rattle.readers.specs.Reading.{Meaning, Step}
 use Rattle.aranges.specs.Sets.{Header}
 use Rattle.aranges.specs.Tuples.{Kind, failed}
@@ -34,13 +34,17 @@ newer_of (fault _) o = o
 abbrev pub turn_header : ℕ → Walk → Turn
 turn_header limit w =
     let s : Step (Option Header) = next_set limit w.start w.ahead in
-    record { event = header s.outcome; walk = record { whole = w.whole; start = w.start; ahead = s.after; newest = newer_of s.outcome w.newest; left = w.left } }
+    record {
+      event = header s.outcome;
+      walk = record w { ahead = s.after; newest = newer_of s.outcome w.newest };
+    }
 
 -- to the first tuple of the latest header's set
 abbrev pub turn_entries : Walk → Turn
 turn_entries w =
     elim w.newest [
-      | Some h ↦ record { event = entries (answer tt); walk = record { whole = w.whole; start = w.start; ahead = w.ahead; newest = w.newest; left = Some (entries_of h) } }
+      | Some h ↦
+          record { event = entries (answer tt); walk = record w { left = Some (entries_of h) } }
       | None ↦ record { event = entries (fault_of 12 0); walk = w }
     ]
 
@@ -48,6 +52,7 @@ turn_entries w =
 abbrev pub turn_next : Kind → Walk → Turn
 turn_next k w =
     elim w.left [
-      | Some l ↦ record { event = told k (draw k l).0; walk = record { whole = w.whole; start = w.start; ahead = w.ahead; newest = w.newest; left = Some (draw k l).1 } }
-      | None ↦ record { event = told k (failed (numbered 12 0)); walk = w }
+      | Some l ↦
+          record { event = told k (draw k l).0; walk = record w { left = Some (draw k l).1 } }
+      | None ↦ record { event = told k (failed (fault_by 12 0)); walk = w }
     ]

@@ -3,17 +3,16 @@ ghost use Rattle.std.specs.Prelude.{◌≡◌, ℕ, option_map};
 ghost use Rattle.readers.specs.Links.{outcome_is};
 ghost use Rattle.aranges.specs.Tuples.{raw, converted};
 ghost use Rattle.aranges.specs.Links.{header_is, told_is};
+ghost use Rattle.lookup.specs.Lookups.{look_in};
+ghost use Rattle.lookup.specs.Links.{looked_is};
 ghost use Rattle.walk.specs.Events.{header as headed, entries as entered, told};
-ghost use Rattle.walk.specs.Lookups.{look_in};
 ghost use Rattle.walk.specs.State.{open_walk, turn_header, turn_entries, turn_next};
-ghost use Rattle.walk.specs.Links.{looked_is, walk_is, Took};
+ghost use Rattle.walk.specs.Links.{walk_is, Took};
 
-use crate::lookup::{Lookup, lookup_address};
 use aranges::{ArangeEntry, ArangeEntryIter, ArangeHeader, ArangeHeaderIter, DebugAranges};
+use lookup::{Lookup, lookup_address};
 use readers::{AddressReader, Error, Reader};
 
-// Clauses give `walk_is` the bound's members each time: a clause has no shorter name for them, and a
-// model's value can hold no function, as the relocation of the readers is.
 /// A walk over the sets of a section and the tuples of one set.
 #[derive(Drop)]
 pub struct Walk<R: AddressReader> {
@@ -27,7 +26,7 @@ pub struct Walk<R: AddressReader> {
 impl<R: AddressReader> Walk<R> {
     /// Opens a walk at the first set of a section.
     pub fn new(section: R) -> Walk<R>
-        ensures { walk_is R.Reader.means R.Offset.ReaderOffset.number result ≡ open_walk (R.Reader.means section) }
+        ensures { walk_is R.means R.Offset.number result ≡ open_walk (R.means section) }
     {
         let section = DebugAranges::new(section);
         let headers = section.headers();
@@ -41,7 +40,9 @@ impl<R: AddressReader> Walk<R> {
 
     /// The next header, which is the latest then. A fault leaves no more headers.
     pub fn next_header(&mut self) -> Result<Option<ArangeHeader<R>>, Error>
-        ensures { Took (headed (outcome_is (option_map (header_is R.Reader.means R.Offset.ReaderOffset.number)) result)) (walk_is R.Reader.means R.Offset.ReaderOffset.number self.new) (turn_header R.Offset.ReaderOffset.limit (walk_is R.Reader.means R.Offset.ReaderOffset.number self.old)) }
+        ensures { Took (headed (outcome_is (option_map (header_is R.means R.Offset.number)) result))
+            (walk_is R.means R.Offset.number self.new)
+            (turn_header R.Offset.limit (walk_is R.means R.Offset.number self.old)) }
     {
         let next = self.headers.next()?;
         if let Some(header) = &next {
@@ -52,7 +53,9 @@ impl<R: AddressReader> Walk<R> {
 
     /// Goes to the first tuple of the latest header's set.
     pub fn entries(&mut self) -> Result<(), Error>
-        ensures { Took (entered (outcome_is (λ x. x) result)) (walk_is R.Reader.means R.Offset.ReaderOffset.number self.new) (turn_entries (walk_is R.Reader.means R.Offset.ReaderOffset.number self.old)) }
+        ensures { Took (entered (outcome_is (λ x. x) result))
+            (walk_is R.means R.Offset.number self.new)
+            (turn_entries (walk_is R.means R.Offset.number self.old)) }
     {
         let header = self.latest.as_ref().ok_or(Error::NothingOpen)?;
         self.tuples = Some(header.entries());
@@ -61,21 +64,24 @@ impl<R: AddressReader> Walk<R> {
 
     /// The next range of the set that `entries` went to.
     pub fn next(&mut self) -> Result<Option<ArangeEntry>, Error>
-        ensures { Took (told converted (told_is result)) (walk_is R.Reader.means R.Offset.ReaderOffset.number self.new) (turn_next converted (walk_is R.Reader.means R.Offset.ReaderOffset.number self.old)) }
+        ensures { Took (told converted (told_is result)) (walk_is R.means R.Offset.number self.new)
+            (turn_next converted (walk_is R.means R.Offset.number self.old)) }
     {
         self.tuples.as_mut().ok_or(Error::NothingOpen)?.next()
     }
 
     /// The next tuple of that set as it stands.
     pub fn next_raw(&mut self) -> Result<Option<ArangeEntry>, Error>
-        ensures { Took (told raw (told_is result)) (walk_is R.Reader.means R.Offset.ReaderOffset.number self.new) (turn_next raw (walk_is R.Reader.means R.Offset.ReaderOffset.number self.old)) }
+        ensures { Took (told raw (told_is result)) (walk_is R.means R.Offset.number self.new)
+            (turn_next raw (walk_is R.means R.Offset.number self.old)) }
     {
         self.tuples.as_mut().ok_or(Error::NothingOpen)?.next_raw()
     }
 
     /// Looks an address up in the whole section, wherever the walk stands.
     pub fn lookup(&self, address: u64) -> Result<Lookup<R::Offset>, Error>
-        ensures { looked_is R.Offset.ReaderOffset.number result ≡ look_in R.Offset.ReaderOffset.limit address (walk_is R.Reader.means R.Offset.ReaderOffset.number self.now).whole }
+        ensures { looked_is R.Offset.number result
+            ≡ look_in R.Offset.limit address (walk_is R.means R.Offset.number self.now).whole }
     {
         lookup_address(&self.section, address)
     }

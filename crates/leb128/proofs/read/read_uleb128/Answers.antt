@@ -1,6 +1,6 @@
 use Rattle.std.proofs.Common.{◌≡◌, get_or, sym, ap, ◌∙◌, arith}
 use Rattle.readers.specs.Reading.{past, gives, refuses}
-use Rattle.leb128.specs.Leb128.{unsigned}
+use Rattle.leb128.specs.Leb128.{unsigned_leb128}
 use Rattle.readers.proofs.Steps.{gave, refused}
 use Rattle.leb128.proofs.Ahead.{shown_one, shown_first, shown_goes_on, shown_ends, shown_tenth, shown_refuses}
 use Rattle.leb128.proofs.read.read_uleb128.Goals.{then-loop-i-test+then-byte-lt128, else-loop-i-test+else-tenth-gt1}
@@ -33,7 +33,7 @@ pub returns-after-loop-i : goal.returns-after-loop-i
 returns-after-loop-i g c =
     let m = g.R.Reader.means c.args.reader.now in
     let value = c.loop-i-test.value in
-    let read : unsigned m ≡ gives value.0 (past value.1 m) =
+    let read : unsigned_leb128 m ≡ gives value.0 (past value.1 m) =
     elim c.loop-i-test.branch [
       | then-loop-i-test+then-byte-lt128 w ↦
           shown_ends _ _ c.in-Some.ensures.0 c.in-Some.ensures.1 c.loop-i.i c.loop-i.result c.loop-i.invariant.0 w.loop-i-test.true w.with_group-result-in-loop-i.result w.with_group-result-in-loop-i.ensures.value w.if-byte-lt128.true

@@ -2,9 +2,9 @@ use Rattle.std.proofs.Common.{◌≡◌, ℕ, ◌*◌, ◌%◌, ◌<◌, ◌≤�
 use Rattle.std.proofs.lemmas.Bool.{le-leb, lt-leb}
 use lib.Bits.{bit_and, bit_or}
 use Rattle.std.proofs.lemmas.Nat.{and_mask}
-use Rattle.readers.specs.Reading.{Meaning, Step, fixed, gives, refuses, then}
+use Rattle.readers.specs.Reading.{Meaning, Step, fixed_number, gives, refuses, step_then}
 use Rattle.readers.specs.Links.{Did}
-use Rattle.leb128.specs.Leb128.{bits, more, up_to, spelling, unsigned_16}
+use Rattle.leb128.specs.Leb128.{bits, more, up_to, spelling, unsigned_leb128_16}
 use Rattle.readers.proofs.Steps.{gave, refused, exits}
 use Rattle.leb128.proofs.Spelling.{spelt_fault, spelt_last, spelt_more, spelt_one, higher, seven_more}
 use Rattle.leb128.proofs.read.read_uleb128_u16.Goals as goal
@@ -54,7 +54,7 @@ returns-then-second-lt128 g c =
     ∙ ap (λ v. gives v (g.R.Reader.means c.read_u8-2.new.reader)) (two-are b d))
 
 -- after two bytes that say more
-third : (b d : ℕ) (m a z : Meaning) → Did (λ (x : ℕ). x) (Ok b) a (fixed 1 m) → 128 ≤ b → Did (λ (x : ℕ). x) (Ok d) z (fixed 1 a) → 128 ≤ d → unsigned_16 m ≡ then (spelling (up_to 1) z) (λ bs y. ends (b ∷ d ∷ bs) y)
+third : (b d : ℕ) (m a z : Meaning) → Did (λ (x : ℕ). x) (Ok b) a (fixed_number 1 m) → 128 ≤ b → Did (λ (x : ℕ). x) (Ok d) z (fixed_number 1 a) → 128 ≤ d → unsigned_leb128_16 m ≡ step_then (spelling (up_to 1) z) (λ bs y. ends (b ∷ d ∷ bs) y)
 third b d m a z p h q k = spelt_more more (up_to 2) ends m a b p (le-leb 128 b h) ∙ spelt_more more (up_to 1) (λ bs y. ends (b ∷ bs) y) a z d q (le-leb 128 d k)
 
 pub returns-in_err-third : goal.returns-in_err-third

@@ -3,9 +3,9 @@ use Rattle.std.proofs.lemmas.Bool.{ne_eqb}
 use Rattle.readers.specs.Links.{fault_is}
 use Rattle.readers.specs.Outcome.{answer, fault}
 use Rattle.mallethill.specs.declared.header.SetHeader.{SetHeader}
-use Rattle.mallethill.specs.Told.{none, told, filled}
+use Rattle.mallethill.specs.Told.{no_fault, c_fault, buffer_with}
 use Rattle.mallethill.specs.Rows.{Row, ended_at}
-use Rattle.mallethill.specs.Headers.{headers_from, counted}
+use Rattle.mallethill.specs.Headers.{headers_from, headers_read}
 use Rattle.mallethill.proofs.Fills.{filled_more}
 use Rattle.mallethill.proofs.Rows.{behind, behind_item, behind_end, headers_at, headers_end, headers_full}
 use Rattle.mallethill.proofs.header.read_headers.Goals as goal
@@ -16,13 +16,13 @@ returns-in-Err c =
     let i = c.loop-count.invariant in
     let k = c.loop-count.count in
     let p = c.loop-count.next in
-    let f = told (fault_is c.in-Err.error) in
+    let f = c_fault (fault_is c.in-Err.error) in
     let lt : k < n = omega (arith, c.loop-count-test.true, c.loop-count.auto.headers) in
     let all = i.3 ∙ ap (behind i.0) (headers_at c.args.section.now c.args.big_endian n k p lt (ne_eqb p (length c.args.section.now) c.if-next-section.true) (fault (fault_is c.in-Err.error)) c.in-Err.ensures) ∙ behind_end i.0 p f in
     record {
       fault = c.from.ensures ∙ sym (ap (λ (r : Row SetHeader). r.ended) all);
-      answer = ap (λ (j : ℕ). record { count = j; next = p }) (sym i.1) ∙ sym (ap counted all);
-      headers = i.2 ∙ sym (ap (λ (r : Row SetHeader). filled c.args.headers.now r.items) all);
+      answer = ap (λ (j : ℕ). record { count = j; next = p }) (sym i.1) ∙ sym (ap headers_read all);
+      headers = i.2 ∙ sym (ap (λ (r : Row SetHeader). buffer_with c.args.headers.now r.items) all);
     }
 
 pub loop-count-preserved : goal.loop-count-preserved
@@ -46,12 +46,12 @@ returns-else-next-section c =
     let i = c.loop-count.invariant in
     let k = c.loop-count.count in
     let p = c.loop-count.next in
-    let end : headers_from c.args.section.now c.args.big_endian (n - k) p ≡ ended_at p none = headers_end c.args.section.now c.args.big_endian (n - k) p (grind (arith, c.if-next-section.false)) in
-    let all = i.3 ∙ ap (behind i.0) end ∙ behind_end i.0 p none in
+    let end : headers_from c.args.section.now c.args.big_endian (n - k) p ≡ ended_at p no_fault = headers_end c.args.section.now c.args.big_endian (n - k) p (grind (arith, c.if-next-section.false)) in
+    let all = i.3 ∙ ap (behind i.0) end ∙ behind_end i.0 p no_fault in
     record {
       fault = sym (ap (λ (r : Row SetHeader). r.ended) all);
-      answer = ap (λ (j : ℕ). record { count = j; next = p }) (sym i.1) ∙ sym (ap counted all);
-      headers = i.2 ∙ sym (ap (λ (r : Row SetHeader). filled c.args.headers.now r.items) all);
+      answer = ap (λ (j : ℕ). record { count = j; next = p }) (sym i.1) ∙ sym (ap headers_read all);
+      headers = i.2 ∙ sym (ap (λ (r : Row SetHeader). buffer_with c.args.headers.now r.items) all);
     }
 
 pub returns-after-loop-count : goal.returns-after-loop-count
@@ -60,10 +60,10 @@ returns-after-loop-count c =
     let i = c.loop-count.invariant in
     let k = c.loop-count.count in
     let p = c.loop-count.next in
-    let end : headers_from c.args.section.now c.args.big_endian (n - k) p ≡ ended_at p none = headers_full c.args.section.now c.args.big_endian n k p (omega (arith, c.loop-count-test.false, c.loop-count.auto.headers)) in
-    let all = i.3 ∙ ap (behind i.0) end ∙ behind_end i.0 p none in
+    let end : headers_from c.args.section.now c.args.big_endian (n - k) p ≡ ended_at p no_fault = headers_full c.args.section.now c.args.big_endian n k p (omega (arith, c.loop-count-test.false, c.loop-count.auto.headers)) in
+    let all = i.3 ∙ ap (behind i.0) end ∙ behind_end i.0 p no_fault in
     record {
       fault = sym (ap (λ (r : Row SetHeader). r.ended) all);
-      answer = ap (λ (j : ℕ). record { count = j; next = p }) (sym i.1) ∙ sym (ap counted all);
-      headers = i.2 ∙ sym (ap (λ (r : Row SetHeader). filled c.args.headers.now r.items) all);
+      answer = ap (λ (j : ℕ). record { count = j; next = p }) (sym i.1) ∙ sym (ap headers_read all);
+      headers = i.2 ∙ sym (ap (λ (r : Row SetHeader). buffer_with c.args.headers.now r.items) all);
     }

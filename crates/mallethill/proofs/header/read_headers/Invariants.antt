@@ -1,7 +1,7 @@
 -- The loop over the headers.
 use Rattle.std.proofs.Common.{◌≡◌, ◌-◌, List, length}
 use Rattle.mallethill.specs.declared.header.SetHeader.{SetHeader}
-use Rattle.mallethill.specs.Told.{filled}
+use Rattle.mallethill.specs.Told.{buffer_with}
 use Rattle.mallethill.specs.Headers.{headers_from}
 use Rattle.mallethill.proofs.Rows.{behind}
 use Rattle.mallethill.proofs.header.read_headers.Given as goal
@@ -11,7 +11,7 @@ abbrev pub invariant-loop-count : goal.invariant-loop-count
 invariant-loop-count l =
     (done : List SetHeader)
     × (length done ≡ l.count)
-    × (l.headers ≡ filled l.initial.headers done)
+    × (l.headers ≡ buffer_with l.initial.headers done)
     × (headers_from l.initial.section l.initial.big_endian (length l.initial.headers) l.initial.offset ≡ behind done (headers_from l.initial.section l.initial.big_endian (length l.initial.headers - l.count) l.next))
 
 -- the room that is left

@@ -1,8 +1,8 @@
 -- Each number that is read stands behind those before it, and a fault ends the row.
 use Rattle.std.proofs.Common.{◌≡◌, ℕ, ◌+◌, ◌-◌, ◌<◌, List, [], ◌∷◌, ◌++◌, length, set, sym, ap, ◌∙◌, arith, length-append}
-use Rattle.mallethill.specs.Told.{none, filled}
+use Rattle.mallethill.specs.Told.{no_fault, buffer_with}
 use Rattle.mallethill.specs.Rows.{Row, ended_at}
-use Rattle.mallethill.specs.Numbers.{row, counted}
+use Rattle.mallethill.specs.Numbers.{row, numbers_read}
 use Rattle.mallethill.proofs.Fills.{filled_more}
 use Rattle.mallethill.proofs.Rows.{behind, behind_item, behind_end, row_more, row_fault, row_empty, row_full, read_some}
 use Rattle.mallethill.proofs.uleb128.read_row.Goals.{then-ends, else-ends}
@@ -28,8 +28,8 @@ returns-in-Err g c =
     record {
       fault = sym (ap (λ (r : Row ℕ). r.ended) all);
       answer = ap (λ (j : ℕ). record { count = j; taken = c.offset_id-taken.result.0 }) (sym i.1)
-          ∙ ap (λ (j : ℕ). record { count = length i.0; taken = j }) c.offset_id-taken.ensures ∙ sym (ap counted all);
-      numbers = i.2 ∙ sym (ap (λ (r : Row ℕ). filled c.args.numbers.now r.items) all);
+          ∙ ap (λ (j : ℕ). record { count = length i.0; taken = j }) c.offset_id-taken.ensures ∙ sym (ap numbers_read all);
+      numbers = i.2 ∙ sym (ap (λ (r : Row ℕ). buffer_with c.args.numbers.now r.items) all);
     }
 
 pub loop-count-preserved : goal.loop-count-preserved
@@ -55,5 +55,5 @@ returns-clause-numbers g c =
     let k = c.loop-count.count in
     let m = g.R.Reader.means c.loop-count.reader in
     let end = row_full n k m (omega (arith, c.loop-count-test.false, c.loop-count.auto.numbers)) in
-    let all = i.3 ∙ ap (behind i.0) end ∙ behind_end i.0 m.id none in
-    i.2 ∙ sym (ap (λ (r : Row ℕ). filled c.args.numbers.now r.items) all)
+    let all = i.3 ∙ ap (behind i.0) end ∙ behind_end i.0 m.id no_fault in
+    i.2 ∙ sym (ap (λ (r : Row ℕ). buffer_with c.args.numbers.now r.items) all)

@@ -1,6 +1,6 @@
 -- The loop over the numbers.
 use Rattle.std.proofs.Common.{◌≡◌, ℕ, ◌-◌, List, length}
-use Rattle.mallethill.specs.Told.{filled}
+use Rattle.mallethill.specs.Told.{buffer_with}
 use Rattle.mallethill.specs.Numbers.{row}
 use Rattle.mallethill.proofs.Rows.{behind}
 use Rattle.mallethill.proofs.uleb128.read_row.Given as goal
@@ -10,7 +10,7 @@ abbrev pub invariant-loop-count : goal.invariant-loop-count
 invariant-loop-count g l =
     (done : List ℕ)
     × (length done ≡ l.count)
-    × (l.numbers ≡ filled l.initial.numbers done)
+    × (l.numbers ≡ buffer_with l.initial.numbers done)
     × (row (length l.initial.numbers) (g.R.Reader.means l.initial.reader) ≡ behind done (row (length l.initial.numbers - l.count) (g.R.Reader.means l.reader)))
 
 -- the room that is left

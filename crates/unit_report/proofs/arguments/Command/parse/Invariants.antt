@@ -1,9 +1,10 @@
-use Rattle.std.proofs.Common.{◌≡◌, map, drop, option_map, vec_items, string_bytes}
-use Rattle.unit_report.specs.Arguments.{arguments, told, no_words}
+use Rattle.std.proofs.Common.{◌≡◌, map, drop, string_bytes}
+use Rattle.unit_report.specs.Arguments.{purpose_of, no_settings}
+use Rattle.unit_report.specs.ArgumentLinks.{settings_is}
 use Rattle.unit_report.proofs.arguments.Command.parse.Given as goal
 
--- the words left make of what is told so far what all of them make of nothing
+-- the words left make of the settings so far what all of them make of none
 abbrev pub invariant-loop-word : goal.invariant-loop-word
 invariant-loop-word l =
-    arguments (told l.strict (option_map (λ x. x.now) l.file) (vec_items l.addresses)) (map string_bytes (drop l.word-index l.words))
-    ≡ arguments no_words (map string_bytes l.words)
+    purpose_of (settings_is l.settings) (map string_bytes (drop l.word-index l.words))
+    ≡ purpose_of no_settings (map string_bytes l.words)

@@ -1,10 +1,14 @@
-use Rattle.std.proofs.Common.{◌≡◌, ◌-◌, ◌≤◌}
-use Rattle.unit_report.specs.Fields.{with_tuples, with_tuples_to}
-use Rattle.unit_report.specs.FieldLinks.{fields_is}
+use Rattle.std.proofs.Common.{◌≡◌, ◌-◌, ◌≤◌, ◌||◌}
+use Rattle.std.specs.List.{list_any}
+use Rattle.elf_relocations.specs.declared.record.Applied.{Applied}
+use Rattle.unit_report.specs.Fields.{tuple_fields, is_of}
+use Rattle.unit_report.specs.FieldLinks.{is_known}
 use Rattle.unit_report.proofs.fields.Fields.add_tuples.Given as goal
 
--- the tuples left add to the numbers so far what makes the whole
+-- what is known, and the tuples left, is what was known and all tuples
 abbrev pub invariant-loop : goal.invariant-loop
 invariant-loop l =
-    (with_tuples (l.count - l.counter) l.place l.size (fields_is l.self) ≡ with_tuples_to l.fn.start l.fn.end l.fn.size (fields_is l.fn.self))
-    × (l.counter ≤ l.count)
+    (l.counter ≤ l.count)
+    × ((r : Applied)
+    → (is_known l.self r || list_any (is_of r) (tuple_fields (l.count - l.counter) l.place l.size))
+    ≡ (is_known l.fn.self r || list_any (is_of r) (tuple_fields l.fn.count l.fn.start l.fn.size)))

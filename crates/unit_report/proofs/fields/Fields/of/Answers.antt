@@ -1,27 +1,15 @@
-use Rattle.std.proofs.Common.{sym, ap, ◌∙◌, arith}
-use Rattle.aranges.specs.Links.{header_is}
-use Rattle.walk.proofs.Looks.{looks_shorter}
-use Rattle.unit_report.specs.Fields.{Fields, with_set, with_end}
-use Rattle.unit_report.specs.FieldLinks.{fields_is}
-use Rattle.unit_report.proofs.Folds.{fold_all, fold_set}
+use Rattle.std.proofs.Common.{◌≡◌, ◌||◌, refl, ap, ◌∙◌}
+use Rattle.std.specs.List.{list_any}
+use Rattle.elf_relocations.specs.declared.record.Applied.{Applied}
+use Rattle.aranges.specs.Answers.{items_in}
+use Rattle.unit_report.specs.Fields.{is_of, is_read}
+use Rattle.unit_report.specs.FieldLinks.{is_known}
+use Rattle.unit_report.proofs.Visits.{known_after}
 use Rattle.unit_report.proofs.fields.Fields.of.Goals as goal
 
-pub loop-header-smaller : goal.loop-header-smaller
-loop-header-smaller g c =
-    let f = header_is g.R.Reader.means g.R.Offset.ReaderOffset.number in
-    let m = g.R.Reader.means c.loop-header.headers.input in
-    let a = g.R.Reader.means c.next.new.self.input in
-    let s = looks_shorter f g.R.Offset.ReaderOffset.limit c.loop-header.headers.start m a c.in-Ok-Some.field-0 c.in-Ok-Some.header c.in-Ok-Some.field-0-is c.in-Ok-Some.ensures.did in
-    omega (arith, s)
-
-pub loop-header-preserved : goal.loop-header-preserved
-loop-header-preserved g c =
-    let f = header_is g.R.Reader.means g.R.Offset.ReaderOffset.number in
-    let m = g.R.Reader.means c.loop-header.headers.input in
-    let a = g.R.Reader.means c.next.new.self.input in
-    let i = (g.R.Reader.means c.args.section.now.section).id in
-    let t = g.R.Offset.ReaderOffset.limit in
-    let e = fold_set with_set with_end t i f c.loop-header.headers.start m a (fields_is c.loop-header.fields) c.in-Ok-Some.field-0 c.in-Ok-Some.header c.in-Ok-Some.field-0-is c.loop-header.invariant.1 c.in-Ok-Some.ensures.did in (
-      ap (λ (fs : Fields). fold_all with_set with_end t i a fs) c.in_ok-add_set-in-Ok-Some.ensures ∙ sym e ∙ c.loop-header.invariant.0,
-      c.in-Ok-Some.ensures.start ∙ c.loop-header.invariant.1,
-    )
+pub returns-in-Continue : goal.returns-in-Continue
+returns-in-Continue g c =
+    let items = items_in g.R.Offset.ReaderOffset.limit (g.R.Reader.means c.args.section.now.section) in
+    let known : (r : Applied) → is_known c.visit.new.visitor r ≡ is_read items r = λ r.
+    known_after c.in-Continue.ensures refl r ∙ ap (λ ks. list_any (is_of r) ks || is_read items r) c.new.ensures.empty in
+    λ i r. known r i

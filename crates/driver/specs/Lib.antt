@@ -1,2 +1,0 @@
-pub mod Input
-pub mod Transcript

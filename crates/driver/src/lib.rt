@@ -1,8 +1,0 @@
-// What rangewalk does with its input: reads a section and commands, makes the calls, writes a line for each answer.
-#![tactic(auto)]
-
-mod head;
-mod input;
-mod run;
-
-pub use run::{MAX_INPUT, transcript};

@@ -1,0 +1,9 @@
+pub mod Longest
+pub mod Ahead
+pub mod Looks
+pub mod Tellings
+pub mod Replays
+pub mod Agree
+pub mod Spoilt
+pub mod RowsRead
+pub mod Whole

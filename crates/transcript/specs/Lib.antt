@@ -1,0 +1,3 @@
+pub mod Input
+pub mod Lines
+pub mod Transcript
