@@ -30,6 +30,14 @@ then_same_by (fault x) a f h e = refl
 pub then_same : {A B : Type 0} (s : Step A) (f h : A → Meaning → Step B) → ((x : A) (z : Meaning) → f x z ≡ h x z) → step_then s f ≡ step_then s h
 then_same s f h e = then_same_by s.outcome s.after f h e
 
+-- to give what was answered changes nothing
+then_gives_by : {A : Type 0} (o : Outcome A) (a : Meaning) → step_then (ends o a) gives ≡ ends o a
+then_gives_by (answer x) a = refl
+then_gives_by (fault e) a = refl
+
+pub then_gives : {A : Type 0} (s : Step A) → step_then s gives ≡ s
+then_gives s = then_gives_by s.outcome s.after
+
 -- after a call that answered comes the rest, of the answer and the reader left
 pub then_did : {A B C : Type 0} {f : A → B} {x : A} {after : Meaning} {s : Step B} (k : B → Meaning → Step C)
     → Did f (Ok x) after s → step_then s k ≡ k (f x) after
@@ -47,3 +55,8 @@ pub exits : {A B : Type 0} (f : A → B) (r : Result A Error) (e : Error) (a : M
 exits f r e a s by h =
     let p = err_from_is_err_and r by in
     rw (p.1, p.2) (refused f e a s h)
+
+-- the fault of a call is that of the whole
+pub then_refused : {A B C : Type 0} {f : A → B} {e : Error} {after : Meaning} {s : Step B} (k : B → Meaning → Step C)
+    → Did f (Err e) after s → step_then s k ≡ ends (fault (fault_is e)) after
+then_refused k d = rw (← d.answers, ← d.leaves)

@@ -1,7 +1,7 @@
 -- What a call may give: an answer, or a fault with its number and payload.
 use Rattle.std.specs.Prelude.{ℕ}
 
--- a fault: its number, 1 to 14 (0 in `driver`, for an input that is malformed), and what it tells beside
+-- a fault: its number, 1 to 14 (0 in `transcript`, for an input that is malformed), and what it tells beside
 pub record Fault : Type 0 where
   pub number : ℕ
   pub payload : ℕ

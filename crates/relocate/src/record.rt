@@ -38,6 +38,7 @@ pub struct Relocation {
 
 impl Relocation {
     /// What becomes of a value; `RelocationRefused` with the offset where the kind is unknown.
+    #[inline(always)]
     pub fn apply(&self, value: u64) -> Result<u64, Error>
         ensures { outcome_is (λ x. x) result ≡ by_kind self.now.kind self.now value }
     {
@@ -62,6 +63,7 @@ pub trait Record: Copy {
 impl Record for Relocation {
     ghost relocation = { λ r. r };
 
+    #[inline(always)]
     fn relocation(&self) -> Relocation {
         *self
     }

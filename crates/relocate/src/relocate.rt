@@ -48,6 +48,7 @@ impl<R: Reader, T: Relocate> RelocateReader<R, T> {
     }
 
     // how far the reader is from where the layer was made
+    #[inline(always)]
     fn offset(&self) -> u64
         ensures { result ≡ (R.means self.now.reader).id - self.now.start }
     {
@@ -56,6 +57,7 @@ impl<R: Reader, T: Relocate> RelocateReader<R, T> {
     }
 
     // what the policy makes of an offset that was read there, if it fits again
+    #[inline(always)]
     fn relocate_offset(&self, offset: u64, value: R::Offset) -> Result<R::Offset, Error>
         ensures { outcome_is R.Offset.number result
             ≡ outcome_then
@@ -135,6 +137,7 @@ impl<R: Reader, T: Relocate> Reader for RelocateReader<R, T> {
 }
 
 impl<R: AddressReader, T: Relocate> AddressReader for RelocateReader<R, T> {
+    #[inline(always)]
     #[tactic(auto, using(crate::proofs::Layers::address_layer))]
     fn read_address(&mut self, address_size: u8) -> Result<u64, Error> {
         let offset = self.offset();
@@ -142,6 +145,7 @@ impl<R: AddressReader, T: Relocate> AddressReader for RelocateReader<R, T> {
         self.relocate.relocate_address(offset, value)
     }
 
+    #[inline(always)]
     #[tactic(auto, using(crate::proofs::Layers::offset_layer))]
     fn read_offset(&mut self, format: Format) -> Result<R::Offset, Error> {
         let offset = self.offset();
@@ -149,6 +153,7 @@ impl<R: AddressReader, T: Relocate> AddressReader for RelocateReader<R, T> {
         self.relocate_offset(offset, value)
     }
 
+    #[inline(always)]
     #[tactic(auto, using(crate::proofs::Layers::sized_offset_layer))]
     fn read_sized_offset(&mut self, size: u8) -> Result<R::Offset, Error> {
         let offset = self.offset();

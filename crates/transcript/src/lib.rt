@@ -6,4 +6,5 @@ mod input;
 mod lines;
 mod run;
 
+pub use lines::line;
 pub use run::{MAX_INPUT, transcript};

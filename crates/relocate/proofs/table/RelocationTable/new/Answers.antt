@@ -20,4 +20,5 @@ returns g c =
       found = same;
       values = λ i o v. by_relocation (option_map g.T.Record.relocation (same i o)) v;
       permutation = c.sort_by_key.ensures.permutation;
+      succeeds = λ _. search rules;
     }
